@@ -1,5 +1,5 @@
 #!/usr/bin/env python3
-"""Compares `tpnet try` with the plain interpreter over random images, outside the gate.
+"""Compares `tpnet try --explain` with the plain interpreter over random images, outside the gate.
 
 usage: bench/compare.py TPNET PLAIN [COUNT [SEED [FIRST]]]      10,000 images by default, from image FIRST on
        bench/compare.py --whole FAST PLAIN [COUNT [SEED [FIRST]]]  all that a node has after 2,000 steps, by two plain interpreters
@@ -17,8 +17,8 @@ workspace in whose 64 bytes the code begins.
 With --sweep each instruction of docs/MACHINE.md is the first, a middle and the last one of a straight row, with registers and operands
 that are inside, at an edge and outside; and each group of SET (GROUPS if none is named; `bench/count-runs --json` writes one) is
 made with as many instructions before it that a turn of 16 steps ends before and within it, at each of its steps. With --whole, which
-compares all that a node has, the row is cut once within it, at another step in each image, and once after it. A step that halts shows as
-missing output; --whole compares its node.
+compares all that a node has, the row is cut once within it, at another step in each image, and once after it. Then come loops (`loops`): each writes its own code by a store, at each distance
+from it; has rows by turns that differ in half a byte and whose addresses differ by 1024; enters a row at each of its bytes; or jumps as a slice ends.
 
 With --cases nothing is compared: the images go into a new folder, each with what the plain interpreter prints beside it. Then
 a program without any proof is compared by: cd crates/tpnet && rt try --cases FOLDER -- try {} --turns 700
@@ -65,6 +65,13 @@ def op(number):
 
 def constant(rng):
     return do("ldc", rng.choice(EDGES) if rng.random() < 0.5 else rng.getrandbits(rng.choice([4, 8, 16, 32])))
+
+
+def closed(body, index):
+    """A loop, whose index and count are two words above the workspace: `lend` goes back to its begin."""
+    back = len(body) + len(do("ldlp", index)) + 2 + 2
+    back += len(do("ldc", back)) - 2
+    return body + do("ldlp", index) + do("ldc", back) + op(0x21)
 
 
 def dump(at):
@@ -138,9 +145,7 @@ def rewriting(rng):
     setting = do("ldc", 0) + do("stl", 20) + do("ldc", rng.randrange(1, 4)) + do("stl", 21)
     ahead = CODE + len(setting) + sum(len(value) + 8 + len(store) for value, store in stores)
     body = b"".join(value + do("ldc", ahead + rng.randrange(len(block) - 4)) + store for value, store in stores) + block
-    back = len(body) + len(do("ldlp", 20)) + 2 + 2
-    back += len(do("ldc", back)) - 2
-    return setting + body + do("ldlp", 20) + do("ldc", back) + op(0x21)
+    return setting + closed(body, 20)
 
 
 def beside(rng, base):
@@ -160,9 +165,7 @@ def beside(rng, base):
             after = begun + len(head) + 8 + len(store)
             body += head + do("ldc", rng.choice([after, after, after + rng.randrange(4), after - rng.randrange(1, 24)])) + store
         body += bytes(rng.choice([0x40, 0x71, 0x81, 0x10]) for _ in range(rng.randrange(1, 6)))
-    back = len(body) + len(do("ldlp", 20)) + 2 + 2
-    back += len(do("ldc", back)) - 2
-    return setting + body + do("ldlp", 20) + do("ldc", back) + op(0x21)
+    return setting + closed(body, 20)
 
 
 def prefixes(rng):
@@ -286,16 +289,114 @@ def instruction(name, operand):
     return do(name, operand) if name in NAMES else op(OPERATIONS[name])
 
 
-def straight(row, stack, wptr, state):
-    """An image of four pages that makes a row, and puts out what there is then."""
+def straight(row, stack, wptr=WORK, state=2, begin=CODE, slice=0, low=FIRST, more=()):
+    """An image of four pages that makes a row, and puts out what there is then. `more` are other bytes of it, and `low` a process in the queue."""
     memory_bytes = bytearray(4096)
     for k in range(0x300, 4096, 4):
         memory_bytes[k:k + 4] = struct.pack("<I", (WORK + 0x20 if k % 16 == 0 else k * 0x01030507 if k % 16 == 8 else k % 7) & 0xFFFFFFFF)
-    memory_bytes[0x2C:0x30] = struct.pack("<I", FIRST)
     # a call, a return or a jump goes into these, which change nothing
     code = row + b"\xB0" * 24 + dump(96)
-    memory_bytes[CODE - FIRST:CODE - FIRST + len(code)] = code
-    return struct.pack("<BBHIIIIIIIIIBBH", 1, 0, 4, CODE, wptr, *stack, *[FIRST] * 4, 0, state, 0) + bytes(128) + bytes(memory_bytes)
+    for address, data in [(0x8000002C, struct.pack("<I", FIRST)), (begin, code), *more]:
+        memory_bytes[address - FIRST:address - FIRST + len(data)] = data
+    head = struct.pack("<BBHIIIIIIIIIBBH", 1, 0, 4, begin, wptr, *stack, FIRST, FIRST, low, low, 0, state, slice)
+    return head + bytes(128) + bytes(memory_bytes)
+
+
+# Four times what a loop's index is, in each byte of a word: the instructions `adc K` in round K.
+ADCS = do("ldl", 6) + do("ldc", 0x01010101) + op(0x08) + do("ldc", 0x80808080) + op(0x4B)
+# What writes it into the word or the byte at a place, and nothing far from there.
+STORES = dict(
+    stl=lambda place: ADCS + do("stl", (place - WORK) // 4),
+    stnl=lambda place: ADCS + do("ldc", place + 12) + do("stnl", -3),
+    sb=lambda place: ADCS + do("ldc", place) + op(0x3B),
+    move=lambda place: ADCS + do("stl", 8) + do("ldlp", 8) + do("ldc", place) + do("ldc", 3) + op(0x4A),
+    lend=lambda place: do("ldc", place - 4) + do("ldc", 0) + op(0x21),
+    call=lambda place: ADCS + do("stl", 8) + 3 * do("ldl", 8) + do("ajw", (place - WORK) // 4 + 2) + do("call", 0)
+    + do("ajw", 2 - (place - WORK) // 4))
+
+
+def rounds(count, body, begin=CODE):
+    """A loop that is made `count` times, with its number in word 6. `body` gives what it makes, by the address where that begins."""
+    setting = do("ldc", 0) + do("stl", 6) + do("ldc", count) + do("stl", 7)
+    return setting + closed(body(begin + len(setting)), 6)
+
+
+def written_over(store, gap, distance, begin):
+    """A loop whose store writes other instructions in each round, so far from the one that comes right after it."""
+    def body(at):
+        before = do("ldl", 5) + do("adc", 1) * 8 + do("stl", 5) + do("ajw", 0) * gap
+        made = before
+        for _ in range(4):
+            made = before + store(at + len(made) + distance)
+        return made + do("ldl", 5) + do("adc", 1) * 12 + do("stl", 5)
+
+    return straight(rounds(4, body, begin), STACKS[1], begin=begin)
+
+
+def going(at, to):
+    """A jump from one address to another."""
+    code = b""
+    for _ in range(4):
+        code = do("j", to - at - len(code))
+    return code
+
+
+def in_one_place(row, other):
+    """A loop that makes two rows by turns, whose addresses differ by 1024."""
+    def body(at):
+        head = do("ldl", 5) + going(at + 1, first)
+        return head + do("stl", 5)
+
+    first, back = 0x80000600, CODE + 4 + 1 + len(going(CODE + 5, 0x80000600))
+    return straight(rounds(3, body), STACKS[1], more=[
+        (first, row + going(first + len(row), first + 1024)), (first + 1024, other + going(first + 1024 + len(other), back))])
+
+
+def entered(row):
+    """A loop that enters a row a byte further on in each round."""
+    def body(at):
+        head = b""
+        for _ in range(3):
+            head = do("ldl", 6) + do("ldc", at + len(head)) + op(0x02) + op(0x06)
+        return head + row + do("ldl", 5) + op(0x33) + do("ldc", 3) + op(0x08) + do("stl", 5)
+
+    return straight(rounds(len(row), body), STACKS[1])
+
+
+def lengthened(length):
+    """Rows of so many bytes, in up to four instructions, and each with one half byte changed."""
+    sizes = [length // 4 + (k < length % 4) for k in range(4)]
+    row = b"".join(b"\x21" * (size - 1) + b"\x81" for size in sizes if size)
+    for k in range(length):
+        yield row, row[:k] + bytes([row[k] ^ 2]) + row[k + 1:]
+
+
+def sliced(name, before, slice, state):
+    """A row with a jump in it as a slice ends. Another process keeps what it finds, as it then runs."""
+    other = do("ldc", WORK) + do("ldnl", 0) + do("ldc", WORK + 48) + do("stnl", 0) + op(0x15)
+    row = do("adc", 0) * before + instruction(name, 0) + do("adc", 0) * 4
+    return straight(row, (0, WORK + 0x60, 3), WORK, state, CODE, slice, WORK + 0x200, [
+        (WORK + 0x1FC, struct.pack("<I", WORK + 0x300)), (WORK + 0x300, other), (WORK, struct.pack("<I", CODE + before + 2))])
+
+
+def loops():
+    """Images of code that is written over, that is entered at each byte, that shares a place with other code, or that ends a slice."""
+    for name, store in STORES.items():
+        for distance in range(-24, 24):
+            for begin in range(WORK + 96, WORK + 100):
+                yield written_over(store, (distance + begin) % 3, distance, begin)
+    for length in range(1, 17):
+        for row, other in lengthened(length):
+            yield in_one_place(row, other)
+            yield in_one_place(other, row)
+    for seed in range(40):
+        rng = random.Random(seed)
+        yield entered(b"".join(do(rng.choice(["ldc", "adc", "ldnlp", "ldlp", "eqc"]), rng.getrandbits(rng.choice([4, 8, 16, 32]))) for _ in range(5)))
+    for name in ("j", "cj", "call", "lend", "ret"):
+        for before in range(6):
+            for slice in range(1023 - before - 4, 1025):
+                for state in (1, 2):
+                    yield sliced(name, before, slice, state)
 
 
 def sweep(groups):
@@ -313,6 +414,8 @@ def sweep(groups):
             for stack in STACKS[:4]:
                 for before in range(15 - len(group), 17):
                     yield straight(neutral * before + row + row, stack, workspace(before), 1 + before % 2), before + 2 * len(group)
+    for made in loops():
+        yield made, 120
 
 
 def workspace(before):
@@ -323,7 +426,12 @@ def workspace(before):
 def run(command):
     limited = ["sh", "-c", 'ulimit -t 120; exec "$0" "$@"', *command]
     done = subprocess.run(limited, capture_output=True)
-    return done.returncode, done.stdout
+    return done.returncode, done.stdout, done.stderr
+
+
+def tried(tpnet, plain, path):
+    """What both programs say of an image: what it puts out, and where it halts."""
+    return [run([tpnet, "try", path, "--turns", str(TURNS), "--explain"]), run([plain, "try", path, str(TURNS), "--explain"])]
 
 
 KINDS = ["arithmetic", "memory", "processes", "processes", "wild", "prefixes", "rewriting", "beside", "beside"]
@@ -333,7 +441,7 @@ GROUPS = [words.split() for words in (
     "ldl adc stl", "ldlp ldc ldc", "ldl ldc", "ldl eqc cj", "ldlp ldc lend", "ldl cj", "ldc ldl gt cj", "ldl sum stl", "ldl add stl",
     "ldl wsub ldnl", "ldl wsub stnl", "ldl add", "ldl sum", "ldl ldl wsub ldnl", "ldl ldl wsub stnl", "ldl adc", "ldc ldc", "ldl ldl",
     "ldc ldl", "ldl ldc bsub lb", "ldl ldc bsub sb", "ldc ldl ldc bsub", "gt cj", "eqc cj", "ldl gt cj", "ldl lb", "ldc stl", "ldl stl",
-    "adc stl", "sum stl", "ldc sum", "ldc rem", "ldc xor", "ldc shr", "ldc and", "ldc mul", "wsub ldnl", "mint ldnlp", "prod ldl sum stl",
+    "adc stl", "sum stl", "ldc sum", "ldc add", "ldc bsub", "ldl ldnl", "ldl eqc", "ldlp ldc", "ldc ldl gt", "ldl ldl wsub", "ldc rem", "ldc xor", "ldc shr", "ldc and", "ldc mul", "wsub ldnl", "mint ldnlp", "prod ldl sum stl",
     "ldl ldl sum stl", "adc call", "ldl adc call")]
 NAMES = {name: FUNCTIONS[name] for name in FUNCTIONS if name != "opr"}
 OPERATIONS = dict(
@@ -374,7 +482,7 @@ def swept(words):
         if is_whole:
             said = [[run([program, "whole", path, str(count)]) for count in (1 + number % steps, steps + 1)] for program in (mine, other)]
         else:
-            said = [run([mine, "try", path, "--turns", str(TURNS)]), run([other, "try", path, str(TURNS)])]
+            said = tried(mine, other, path)
         if said[0] == said[1]:
             os.unlink(path)
             return 0
@@ -414,8 +522,7 @@ def main():
         if is_whole:
             mine, other = (run([program, "whole", path, "2000"]) for program in (tpnet, plain))
         else:
-            mine = run([tpnet, "try", path, "--turns", str(TURNS)])
-            other = run([plain, "try", path, str(TURNS)])
+            mine, other = tried(tpnet, plain, path)
         same = mine == other and mine[0] >= 0
         if same:
             os.unlink(path)

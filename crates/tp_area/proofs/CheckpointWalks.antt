@@ -1,21 +1,6 @@
 -- The calls of a checkpoint, one after the other, are a piece of a run.
 use Rattle.std.proofs.Common.{◌≡◌, ℕ, ◌+◌, List, [], length, refl, sym, ap, subst, ◌∙◌, Some, Ok}
-use Rattle.std.specs.List.{AllByRecursion}
-use Rattle.tp_model.specs.NodeState.{NodeState}
-use Rattle.tp_model.specs.Node.{t414}
-use Rattle.tp_model.specs.Topology.{Topology}
-use Rattle.tp_model.specs.Disk.{Moment, IsWithin}
-use Rattle.tp_model.specs.DiskHistory.{State}
-use Rattle.tp_model.specs.StoreCalls.{Called, put_calls}
-use Rattle.tp_model.specs.DeviceAreas.{device_areas}
-use Rattle.tp_model.specs.Opening.{Opened, held_of, verdict}
-use Rattle.tp_model.specs.WholeCut.{WholeCut}
-use Rattle.tp_model.specs.WriteOrder.{Resting, Tail, Opened as AtOpened}
-use Rattle.tp_model.specs.Runs.{World, CopiesTail, Trims, HasCut, copy_of}
-use Rattle.tp_model.specs.Walks.{Walks}
-use Rattle.tp_law_network.specs.Standing.{RestsBetweenGroups}
-use Rattle.tp_law_network.proofs.Planned.{clear_walks, pieces_walk, tail_walks, switch_walks}
-use Rattle.tp_law_network.proofs.Walks.{one_step, still_walks, walks_then}
+use Rattle.tp_area.proofs.Lower.{AllByRecursion, NodeState, t414, Topology, Moment, IsWithin, State, Called, put_calls, device_areas, Opened, held_of, verdict, WholeCut, Resting, Tail, AtOpened, World, CopiesTail, Trims, HasCut, copy_of, Walks, RestsBetweenGroups, clear_walks, pieces_walk, tail_walks, switch_walks, one_step, still_walks, walks_then}
 use Rattle.tp_area.specs.Checkpointed.{checkpointed}
 use Rattle.tp_area.specs.Crashes.{RestsAs}
 use Rattle.tp_area.specs.Other.{Cleared, Switched, if_open, other_gate}

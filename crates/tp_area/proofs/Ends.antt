@@ -1,15 +1,7 @@
 -- The numbers of ends in a head: those of a topology belong to ends that a network may have.
-use Rattle.std.proofs.Common.{◌≡◌, ℕ, ◌+◌, ◌-◌, ◌*◌, ◌/◌, ◌%◌, ◌<◌, ◌≤◌, true, cond, List, [], ◌∷◌, ◌++◌, map, refl, ap, subst, ◌∙◌, arith, inl, inr}
-use Rattle.std.specs.Prelude.{◌&&◌, ◌==◌, nat_le, nat_lt, Option, Some, None}
-use Rattle.std.specs.List.{list_all}
-use Rattle.std.proofs.lemmas.Bool.{and_parts, and_from, cases_lt, cond-true, cond-false, le-leb, le-ltb, lt-ltb, ltb-true, ne_eqb}
-use Rattle.tp_model.specs.declared.head.HeadVersion.{HeadVersion}
-use Rattle.tp_model.specs.declared.head.HeadVersion.TheVariants.{Narrow, Wide}
-use Rattle.tp_model.specs.declared.wire.WireEnd.{WireEnd}
-use Rattle.tp_model.specs.declared.wire.WireEnd.TheVariants.{Link, Port as AtPort}
-use Rattle.tp_model.specs.declared.limits.TheConstants.{MAX_NODES, MAX_PORTS}
-use Rattle.tp_model.specs.Head.{end_of_number, first_port}
-use Rattle.tp_model.specs.Topology.{all_lead_back, is_end, joins_link, leads_back}
+use Rattle.std.proofs.Common.{◌≡◌, ℕ, ◌+◌, ◌-◌, ◌*◌, ◌/◌, ◌%◌, ◌<◌, ◌≤◌, true, cond, List, [], ◌∷◌, ◌++◌, map, refl, ap, subst, ◌∙◌, arith, inl, inr, Some, None}
+use Rattle.std.specs.Prelude.{◌&&◌, ◌==◌, nat_le, nat_lt, Option}
+use Rattle.tp_area.proofs.Lower.{list_all, and_parts, and_from, cases_lt, cond-true, cond-false, le-leb, le-ltb, lt-ltb, ltb-true, ne_eqb, HeadVersion, Narrow, Wide, WireEnd, Link, AtPort, MAX_NODES, MAX_PORTS, end_of_number, first_port, all_lead_back, is_end, joins_link, leads_back}
 use Rattle.tp_area.specs.Ends.{is_end_number}
 
 -- 0 is the number of no end

@@ -1,35 +1,7 @@
 -- The bytes that a device is formatted with.
-use Rattle.std.proofs.Common.{◌≡◌, ℕ, zero, suc, ◌+◌, ◌-◌, ◌*◌, ◌<◌, ◌≤◌, ◌⊎◌, inl, inr, Bool, true, false, List, [], ◌∷◌, ◌++◌, length, take, drop, get_or, map, refl, sym, ap, subst, ◌∙◌, arith, append_assoc, length-append, add-zero, Option, Some, None, Ok}
-use Rattle.std.specs.Prelude.{◌&&◌, ◌==◌, nat_le, flat_map, sum_by, replicate}
-use Rattle.std.specs.Option.{option_map}
-use Rattle.std.specs.List.{concat}
-use Rattle.std.proofs.lemmas.Bool.{and_parts, leb-true, eqb-true}
-use Rattle.std.proofs.lemmas.Option.{cond_some}
-use Rattle.std.proofs.lemmas.List.{take_at, drop-drop, length-replicate, replicate-append-replicate, get_or-drop}
-use Rattle.std.proofs.Math.Seq.{take-append-add}
-use Rattle.std.proofs.lemmas.List.Sums.{sum_by-cons}
-use Rattle.tp_model.specs.declared.areas.TwoAreas.{TwoAreas}
-use Rattle.tp_model.specs.declared.form.Form.TheVariants.{Turns}
-use Rattle.tp_model.specs.declared.limits.TheConstants.{AREA_HEAD_BYTES, GATE_OPEN, GATE_CLOSED, LINE_BYTES, MAX_HELD, PORT_BYTES}
-use Rattle.tp_model.specs.Bytes.{u16_bytes, u32_bytes, u64_bytes, zeros}
-use Rattle.tp_model.specs.NodeState.{NodeState}
-use Rattle.tp_model.specs.Network.{◌>>=◌, Network}
-use Rattle.tp_model.specs.Topology.{Topology, line_count}
-use Rattle.tp_model.specs.Journal.{image_length, cut_length, is_roomy, room, reserve, entry_room}
-use Rattle.tp_model.specs.Disk.{Moment, SameOutside, Write, Sync, written}
-use Rattle.tp_model.specs.DiskHistory.{State, IsSynced, LeavesOnly}
-use Rattle.tp_model.specs.Device.{areas_end, fits_device}
-use Rattle.tp_model.specs.Head.{head_bytes, head_length, version_for}
-use Rattle.tp_model.specs.Image.{page_count, image, node_of, has_idle_links}
-use Rattle.tp_model.specs.CutImage.{base_number, line_bytes, port_bytes, cut_bytes, only_if}
-use Rattle.tp_model.specs.Opening.{network_of}
-use Rattle.tp_model.specs.Spelling.{front_bytes}
-use Rattle.tp_model.specs.Format.{fresh_node, fresh_nodes, fresh_port, IsFormatted}
-use Rattle.tp_law_machine.proofs.Images.{image-node_of}
-use Rattle.tp_disk.proofs.Moments.{length-written, written_same_outside}
-use Rattle.tp_disk.proofs.Agree.{same_apart}
-use Rattle.tp_disk.proofs.Calls.{all_done-append, started, weaker, synced_stands}
-use Rattle.tp_model.specs.StoreCalls.{put_calls}
+use Rattle.std.proofs.Common.{◌≡◌, ℕ, zero, suc, ◌+◌, ◌-◌, ◌*◌, ◌<◌, ◌≤◌, ◌⊎◌, inl, inr, Bool, true, false, List, [], ◌∷◌, ◌++◌, length, take, drop, get_or, map, refl, sym, ap, subst, ◌∙◌, arith, append_assoc, length-append, add-zero, Some, None, Ok}
+use Rattle.std.specs.Prelude.{Option, ◌&&◌, ◌==◌, nat_le, flat_map, sum_by, replicate}
+use Rattle.tp_area.proofs.Lower.{option_map, concat, and_parts, leb-true, eqb-true, cond_some, take_at, drop-drop, length-replicate, replicate-append-replicate, get_or-drop, take-append-add, sum_by-cons, TwoAreas, Turns, AREA_HEAD_BYTES, GATE_OPEN, GATE_CLOSED, LINE_BYTES, MAX_HELD, PORT_BYTES, u16_bytes, u32_bytes, u64_bytes, zeros, NodeState, ◌>>=◌, Network, Topology, line_count, image_length, cut_length, is_roomy, room, reserve, entry_room, Moment, SameOutside, Write, Sync, written, State, IsSynced, LeavesOnly, areas_end, fits_device, head_bytes, head_length, version_for, page_count, image, node_of, has_idle_links, base_number, line_bytes, port_bytes, cut_bytes, only_if, network_of, front_bytes, fresh_node, fresh_nodes, fresh_port, IsFormatted, image-node_of, length-written, written_same_outside, same_apart, all_done-append, started, weaker, synced_stands, put_calls}
 use Rattle.tp_area.specs.Formatting.{Checks, FormatAnswer, area_front, fresh_area, with_areas, Wrote, Formatted, IsOldOrNew}
 use Rattle.tp_area.specs.Puts.{ButFor}
 use Rattle.tp_area.proofs.PutLaws.{but_for_may}

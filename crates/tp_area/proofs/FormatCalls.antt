@@ -1,13 +1,6 @@
 -- The calls of formatting: what they write, and in which order.
 use Rattle.std.proofs.Common.{◌≡◌, ℕ, ◌+◌, ◌*◌, ◌≤◌, ◌⊎◌, inl, inr, true, Result, OnOk, OnErr, List, [], ◌∷◌, ◌++◌, length, refl, sym, ap, subst, ◌∙◌, arith}
-use Rattle.std.specs.List.{AllByRecursion}
-use Rattle.tp_model.specs.declared.areas.TwoAreas.{TwoAreas}
-use Rattle.tp_model.specs.declared.limits.TheConstants.{AREA_HEAD_BYTES, BASE_BYTES, GATE_CLOSED}
-use Rattle.tp_model.specs.Device.{area_start}
-use Rattle.tp_model.specs.Disk.{Moment, MayBe, IsWithin, SameOutside, Write, Sync, written, done, within}
-use Rattle.tp_model.specs.DiskHistory.{State, MomentPassed, Fails, LeavesOnly}
-use Rattle.tp_model.specs.StoreCalls.{Called, put_calls}
-use Rattle.tp_disk.proofs.Calls.{called_one, called_then, written_through, and_then, weaker, call_leaves, same_outside_write}
+use Rattle.tp_area.proofs.Lower.{AllByRecursion, TwoAreas, AREA_HEAD_BYTES, BASE_BYTES, GATE_CLOSED, area_start, Moment, MayBe, IsWithin, SameOutside, Write, Sync, written, done, within, State, MomentPassed, Fails, LeavesOnly, Called, put_calls, called_one, called_then, written_through, and_then, weaker, call_leaves, same_outside_write}
 use Rattle.tp_area.specs.Puts.{ButFor, Puts}
 use Rattle.tp_area.specs.Formatting.{area_front, Wrote, with_areas}
 use Rattle.tp_area.proofs.PutLaws.{put_calls-append, wider_leaves, then_leaves}

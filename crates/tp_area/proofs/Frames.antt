@@ -1,14 +1,6 @@
 -- What stays when a range of an area's groups is written: the head, the gates, the generations, and the other content.
 use Rattle.std.proofs.Common.{◌≡◌, ℕ, ◌+◌, ◌-◌, ◌≤◌, inl, inr, Bool, true, false, List, [], ◌∷◌, ◌++◌, length, take, drop, ap, ◌∙◌, arith, append_assoc, length-append}
-use Rattle.std.proofs.lemmas.List.{drop_at, length-take-le}
-use Rattle.std.proofs.Math.Seq.{take-append-add}
-use Rattle.tp_model.specs.declared.areas.TwoAreas.{TwoAreas}
-use Rattle.tp_model.specs.declared.limits.TheConstants.{AREA_HEAD_BYTES, BASE_BYTES, GATE_OPEN}
-use Rattle.tp_model.specs.Disk.{SameOutside, written}
-use Rattle.tp_model.specs.Device.{area_start, gate_of, content_of, is_open, generation_of}
-use Rattle.tp_model.specs.Opening.{chosen_area, choice}
-use Rattle.tp_disk.proofs.Moments.{length-written, written_same_outside}
-use Rattle.tp_disk.proofs.Agree.{same_wider, same_trans, same_apart, same_in}
+use Rattle.tp_area.proofs.Lower.{drop_at, length-take-le, take-append-add, TwoAreas, AREA_HEAD_BYTES, BASE_BYTES, GATE_OPEN, SameOutside, written, area_start, gate_of, content_of, is_open, generation_of, chosen_area, choice, length-written, written_same_outside, same_wider, same_trans, same_apart, same_in}
 use Rattle.tp_area.proofs.SameFront.{SameFront, front_of_range, u64_same}
 
 -- ## Written bytes

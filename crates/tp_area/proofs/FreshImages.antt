@@ -1,20 +1,7 @@
 -- Images that a device may be formatted with.
-use Rattle.std.proofs.Common.{◌≡◌, ℕ, ◌+◌, ◌*◌, ◌<◌, ◌≤◌, ◌≢◌, Bool, true, false, cond, List, [], ◌∷◌, length, take, drop, get_or, refl, sym, ap, subst, ◌∙◌, arith, length-drop, Option, Some, None, Ok, Err}
-use Rattle.std.specs.Prelude.{◌&&◌, ◌==◌, nat_le, is_some, bytes_eq}
-use Rattle.std.specs.List.{list_all}
-use Rattle.std.proofs.lemmas.Bool.{and_parts, leb-true, eqb-true, eq-eqb, true≢false}
-use Rattle.std.proofs.lemmas.Option.{cond_some}
-use Rattle.std.proofs.lemmas.List.{drop_all, drop_more}
-use Rattle.tp_model.specs.declared.limits.TheConstants.{IMAGE_HEAD_BYTES, PAGE_BYTES, MIN_PAGES, MAX_PAGES}
-use Rattle.tp_model.specs.NodeState.{NodeState}
-use Rattle.tp_model.specs.Network.{◌>>=◌}
-use Rattle.tp_model.specs.EndBytes.{out_end_at, in_end_at, ends_at, is_idle_out, is_idle_in}
-use Rattle.tp_model.specs.Image.{page_count, is_memory, is_node, node_at, node_of, image_head, has_idle_links}
-use Rattle.tp_model.specs.CutImage.{only_if}
-use Rattle.tp_model.specs.Format.{fresh_node, fresh_nodes}
-use Rattle.tp_node.proofs.Answered.{image_read}
-use Rattle.tp_node.specs.NodeContents.{NodeContents}
-use Rattle.tp_node.specs.FromImage.{ReadsImage}
+use Rattle.std.proofs.Common.{◌≡◌, ℕ, ◌+◌, ◌*◌, ◌<◌, ◌≤◌, ◌≢◌, Bool, true, false, cond, List, [], ◌∷◌, length, take, drop, get_or, refl, sym, ap, subst, ◌∙◌, arith, length-drop, Some, None, Ok, Err}
+use Rattle.std.specs.Prelude.{Option, ◌&&◌, ◌==◌, nat_le, is_some, bytes_eq}
+use Rattle.tp_area.proofs.Lower.{list_all, and_parts, leb-true, eqb-true, eq-eqb, true≢false, cond_some, drop_all, drop_more, IMAGE_HEAD_BYTES, PAGE_BYTES, MIN_PAGES, MAX_PAGES, NodeState, ◌>>=◌, out_end_at, in_end_at, ends_at, is_idle_out, is_idle_in, page_count, is_memory, is_node, node_at, node_of, image_head, has_idle_links, only_if, fresh_node, fresh_nodes, image_read, NodeContents, ReadsImage}
 use Rattle.tp_area.specs.declared.fault.FormatFault.{FormatFault}
 use Rattle.tp_area.specs.Formatting.{Checks}
 

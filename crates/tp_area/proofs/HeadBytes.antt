@@ -1,18 +1,7 @@
 -- A head, written field by field.
-use Rattle.std.proofs.Common.{◌≡◌, ℕ, ◌+◌, ◌-◌, ◌*◌, ◌<◌, ◌≤◌, true, List, [], ◌∷◌, ◌++◌, length, take, get_or, map, sym, ap, ◌∙◌, arith, append_assoc, length-append, length-take}
-use Rattle.std.specs.Prelude.{Option, None}
-use Rattle.std.specs.List.{flat_map}
-use Rattle.std.proofs.lemmas.List.{get_or-map, length-map}
-use Rattle.tp_model.specs.declared.areas.TwoAreas.{TwoAreas}
-use Rattle.tp_model.specs.declared.head.HeadVersion.{HeadVersion}
-use Rattle.tp_model.specs.declared.head.HeadVersion.TheVariants.{Narrow, Wide}
-use Rattle.tp_model.specs.declared.limits.TheConstants.{MAX_PORTS, WIDE_HEAD_BYTES}
-use Rattle.tp_model.specs.declared.wire.WireEnd.{WireEnd}
-use Rattle.tp_model.specs.Bytes.{u16_bytes, u64_bytes, padded, zeros}
-use Rattle.tp_model.specs.Head.{end_number, ends_place, first_port, head_bytes, head_length, head_nodes, keeps_limits, magic, numbers_bytes, version_byte}
-use Rattle.tp_model.specs.Topology.{Topology, is_topology, node_count}
-use Rattle.tp_law_device.proofs.Heads.{keeps_nodes}
-use Rattle.tp_net.proofs.Topologies.{has_shape, end_number-bound}
+use Rattle.std.proofs.Common.{◌≡◌, ℕ, ◌+◌, ◌-◌, ◌*◌, ◌<◌, ◌≤◌, true, List, [], ◌∷◌, ◌++◌, length, take, get_or, map, sym, ap, ◌∙◌, arith, append_assoc, length-append, length-take, None}
+use Rattle.std.specs.Prelude.{Option}
+use Rattle.tp_area.proofs.Lower.{get_or-map, length-map, TwoAreas, HeadVersion, Narrow, Wide, MAX_PORTS, WIDE_HEAD_BYTES, WireEnd, u16_bytes, u64_bytes, padded, zeros, end_number, ends_place, first_port, head_bytes, head_length, head_nodes, keeps_limits, magic, numbers_bytes, version_byte, Topology, is_topology, node_count, keeps_nodes, has_shape, end_number-bound, flat_map}
 use Rattle.tp_area.specs.declared.head_places.TheConstants.{AREA_PLACE}
 
 -- what is filled up after other bytes

@@ -1,31 +1,12 @@
 -- The head that bytes are, by their fields.
-use Rattle.std.proofs.Common.{◌≡◌, ℕ, ◌+◌, ◌-◌, ◌*◌, ◌<◌, ◌≤◌, List, length, take, drop, map, refl, sym, ap, ◌∙◌, arith, Bool, true, false, cond, inl, inr}
-use Rattle.std.specs.Prelude.{not, ◌&&◌, ◌⊎◌, bytes_eq, Option, Some, None, Ok, Err}
-use Rattle.std.specs.List.{list_all, range_with_len}
-use Rattle.std.proofs.lemmas.Bool.{and_parts, cases_Bool, cases_lt, le-leb, lt-leb}
-use Rattle.std.proofs.lemmas.Option.{cond_some}
-use Rattle.std.proofs.lemmas.List.{take-take, take_rest}
-use Rattle.tp_model.specs.declared.areas.TwoAreas.{TwoAreas}
-use Rattle.tp_model.specs.declared.head.HeadVersion.{HeadVersion}
-use Rattle.tp_model.specs.declared.wire.WireEnd.{WireEnd}
-use Rattle.tp_model.specs.declared.opening.OpenFault.{OpenFault}
-use Rattle.tp_model.specs.declared.opening.OpenFault.TheVariants.{NotFormatted, Damaged}
-use Rattle.tp_model.specs.declared.limits.TheConstants.{NARROW_HEAD_BYTES, MAX_PORTS}
-use Rattle.tp_model.specs.Bytes.{u8_at, u64_at}
-use Rattle.tp_model.specs.CutImage.{or_damaged}
-use Rattle.tp_model.specs.Device.{areas_end, fits_device}
-use Rattle.tp_model.specs.Journal.{is_roomy}
-use Rattle.tp_model.specs.Head.{Head, all_wires, areas_of_length, end_of_number, ends_place, head_at, head_bytes, head_length, head_nodes, head_of, head_with, is_head, keeps_limits, magic, numbers_at, port_wire, u16s_at, version_of}
-use Rattle.tp_model.specs.Topology.{Topology, is_topology}
-use Rattle.tp_net.specs.Parts.{if_topology, parts}
+use Rattle.std.proofs.Common.{◌≡◌, ℕ, ◌+◌, ◌-◌, ◌*◌, ◌<◌, ◌≤◌, List, length, take, drop, map, refl, sym, ap, ◌∙◌, arith, Bool, true, false, cond, inl, inr, ◌⊎◌, Some, None, Ok, Err}
+use Rattle.std.specs.Prelude.{not, ◌&&◌, bytes_eq, Option}
+use Rattle.tp_area.proofs.Lower.{list_all, range_with_len, and_parts, cases_Bool, cases_lt, le-leb, lt-leb, cond_some, take-take, take_rest, TwoAreas, HeadVersion, WireEnd, OpenFault, NotFormatted, Damaged, NARROW_HEAD_BYTES, MAX_PORTS, u8_at, u64_at, or_damaged, areas_end, fits_device, is_roomy, Head, all_wires, areas_of_length, end_of_number, ends_place, head_at, head_bytes, head_length, head_nodes, head_of, head_with, is_head, keeps_limits, magic, numbers_at, port_wire, u16s_at, version_of, Topology, is_topology, if_topology, parts, whole_front, head_at_same, head_long, keeps_nodes, length-u16s_at, has_shape}
 use Rattle.tp_area.specs.declared.head_places.TheConstants.{VERSION_PLACE, NODES_PLACE, PORTS_PLACE, AREA_PLACE, PAGES_PLACE}
 use Rattle.tp_area.specs.Ends.{is_end_number}
 use Rattle.tp_area.specs.Heads.{can_be_said, is_whole, fields_in, head_in, topology_at, version_given, version_in}
-use Rattle.tp_law_device.proofs.Fronts.{whole_front}
-use Rattle.tp_law_device.proofs.Heads.{head_at_same, head_long, keeps_nodes, length-u16s_at}
 use Rattle.tp_area.proofs.Ends.{numbers_there}
 use Rattle.tp_area.proofs.Parts.{u8_at-take}
-use Rattle.tp_net.proofs.Topologies.{has_shape}
 
 and_false : (a b : Bool) → (a && (b && false)) ≡ false
 and_false true true = refl

@@ -1,3 +1,4 @@
+pub mod Lower
 pub mod Appends
 pub mod Behind
 pub mod CheckpointWalks

@@ -1,27 +1,7 @@
 -- The area that isn't open may hold anything, as long as its gate is closed.
 use Rattle.std.proofs.Common.{◌≡◌, ℕ, ◌+◌, ◌-◌, ◌<◌, ◌≤◌, inl, inr, Bool, true, false, List, [], ◌∷◌, length, take, drop, get_or, refl, sym, ap, subst, ◌∙◌, arith, add-zero, Some, None, Result, Ok, Err, OnOk, OnErr}
 use Rattle.std.specs.Prelude.{not, nat_lt, if◌then◌else◌}
-use Rattle.std.proofs.lemmas.Bool.{cond-false, eq-eqb}
-use Rattle.std.proofs.lemmas.Option.{cond_some, same_Some}
-use Rattle.std.proofs.lemmas.List.{drop_more, get_or-drop}
-use Rattle.tp_model.specs.declared.opening.OpenFault.{OpenFault}
-use Rattle.tp_model.specs.declared.areas.TwoAreas.{TwoAreas}
-use Rattle.tp_model.specs.declared.limits.TheConstants.{AREA_HEAD_BYTES, GATE_CLOSED}
-use Rattle.tp_model.specs.Bytes.{u8_at}
-use Rattle.tp_model.specs.NodeState.{NodeState}
-use Rattle.tp_model.specs.Node.{t414, t414_ends}
-use Rattle.tp_model.specs.Device.{area_start, areas_end, gate_of, content_of, is_open, generation_of}
-use Rattle.tp_model.specs.Disk.{Moment, MayBe, Write, Sync, Read, SameOutside, IsWithin, written, done, within}
-use Rattle.tp_model.specs.DiskHistory.{State, MomentPassed, Fails, IsSynced, LeavesOnly}
-use Rattle.tp_model.specs.StoreCalls.{all_done, Called, Broke, clear_calls, switch_calls}
-use Rattle.tp_model.specs.Areas.{Held, gate_closed}
-use Rattle.tp_model.specs.Opening.{Opened, held_of, area_in, chosen_area, choice, opening, verdict, base_of, form_of}
-use Rattle.tp_model.specs.DeviceAreas.{device_areas, open_other_of, spare_of, other_of, if_newer, other_is_open, other_start, other_content}
-use Rattle.tp_law_network.specs.Standing.{RestsBetweenGroups}
-use Rattle.tp_law_network.proofs.Device.{put_may, put_done}
-use Rattle.tp_disk.proofs.Moments.{written_same_outside}
-use Rattle.tp_disk.proofs.Agree.{same_apart}
-use Rattle.tp_disk.proofs.Calls.{called_one, called_then, broke_one, broke_first, broke_later, weaker, call_leaves, calls_leave}
+use Rattle.tp_area.proofs.Lower.{cond-false, eq-eqb, cond_some, same_Some, drop_more, get_or-drop, OpenFault, TwoAreas, AREA_HEAD_BYTES, GATE_CLOSED, u8_at, NodeState, t414, t414_ends, area_start, areas_end, gate_of, content_of, is_open, generation_of, Moment, MayBe, Write, Sync, Read, SameOutside, IsWithin, written, done, within, State, MomentPassed, Fails, IsSynced, LeavesOnly, all_done, Called, Broke, clear_calls, switch_calls, Held, gate_closed, Opened, held_of, area_in, chosen_area, choice, opening, verdict, base_of, form_of, device_areas, open_other_of, spare_of, other_of, if_newer, other_is_open, other_start, other_content, RestsBetweenGroups, put_may, put_done, written_same_outside, same_apart, called_one, called_then, broke_one, broke_first, broke_later, weaker, call_leaves, calls_leave}
 use Rattle.tp_area.specs.declared.place.Place.{Place}
 use Rattle.tp_area.specs.Places.{cut_field, listed, place_in, place_at}
 use Rattle.tp_area.specs.Other.{other_gate, if_open, OtherIsClosed, Cleared, PutBehind, Switched}

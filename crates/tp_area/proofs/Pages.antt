@@ -1,11 +1,6 @@
 -- The pages of nodes are numbers of pages.
 use Rattle.std.proofs.Common.{◌≡◌, ℕ, true, List, ◌++◌, take, drop, sym, ap, ◌∙◌}
-use Rattle.std.specs.List.{list_all}
-use Rattle.std.proofs.lemmas.Bool.{and_parts}
-use Rattle.std.proofs.lemmas.List.{take-append-drop}
-use Rattle.std.proofs.lemmas.List.Folds.{list_all-append}
-use Rattle.tp_model.specs.Topology.{Topology, is_page_count, is_topology}
-use Rattle.tp_net.proofs.Topologies.{has_shape}
+use Rattle.tp_area.proofs.Lower.{list_all, and_parts, take-append-drop, list_all-append, Topology, is_page_count, is_topology, has_shape}
 
 -- those of a topology
 pub pages_counted : (t : Topology) (pages : List ℕ) → is_topology t ≡ true → pages ≡ t.pages → list_all is_page_count pages ≡ true

@@ -1,9 +1,6 @@
 -- What a part of some bytes says, and what they say themselves.
 use Rattle.std.proofs.Common.{◌≡◌, ℕ, ◌+◌, ◌-◌, ◌<◌, ◌≤◌, List, take, drop, sym, ap, ◌∙◌, arith}
-use Rattle.std.proofs.lemmas.List.{get_or-take, get_or-drop, drop-drop, drop-take, take-take}
-use Rattle.std.specs.Int.{from_le_bytes, w64}
-use Rattle.tp_model.specs.Bytes.{u8_at, u16_at, u32_at, u64_at}
-use Rattle.tp_law_device.proofs.Fronts.{whole_front, u16_front, u32_front, u64_front}
+use Rattle.tp_area.proofs.Lower.{get_or-take, get_or-drop, drop-drop, drop-take, take-take, from_le_bytes, w64, u8_at, u16_at, u32_at, u64_at, whole_front, u16_front, u32_front, u64_front}
 
 -- the front of a list says what the list says
 pub u64_at-take : (m place : ℕ) (xs : List ℕ) → place + 8 ≤ m → u64_at (take m xs) place ≡ u64_at xs place

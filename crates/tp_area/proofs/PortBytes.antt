@@ -1,10 +1,6 @@
 -- A port's record, written field by field.
 use Rattle.std.proofs.Common.{◌≡◌, ℕ, ◌+◌, ◌-◌, ◌≤◌, List, [], ◌++◌, length, refl, ap, ◌∙◌, arith, append_assoc, length-append}
-use Rattle.std.proofs.lemmas.List.{length-replicate}
-use Rattle.tp_model.specs.declared.limits.TheConstants.{MAX_HELD, PORT_BYTES}
-use Rattle.tp_model.specs.Bytes.{u16_bytes, u64_bytes, padded, zeros}
-use Rattle.tp_model.specs.CutImage.{port_bytes}
-use Rattle.tp_model.specs.Network.{Port}
+use Rattle.tp_area.proofs.Lower.{length-replicate, MAX_HELD, PORT_BYTES, u16_bytes, u64_bytes, padded, zeros, port_bytes, Port}
 use Rattle.tp_area.proofs.HeadBytes.{padded-behind}
 
 length-padded : (n : ℕ) (xs : List ℕ) → length xs ≤ n → length (padded n xs) ≡ n

@@ -1,16 +1,7 @@
 -- Records of ports.
-use Rattle.std.proofs.Common.{◌≡◌, ℕ, ◌+◌, ◌-◌, ◌<◌, ◌≤◌, List, ◌++◌, length, take, drop, get_or, refl, sym, ap, ◌∙◌, arith, append_assoc, true, false, cond, inl, inr, Fits, w8}
-use Rattle.std.specs.Prelude.{◌&&◌, ◌⊎◌, nat_le, bytes_eq, Some, None}
-use Rattle.std.specs.List.{list_all}
-use Rattle.std.proofs.lemmas.Bool.{and_parts, leb-true, le-leb, cases_Bool, cases_lt}
-use Rattle.std.proofs.lemmas.Nat.{le_bytes_2, le_bytes_8}
-use Rattle.std.proofs.lemmas.List.{length-take, length-drop, length-take-le, take-take, take_all, length-replicate, get_or-take, get_or-drop, get_or_past}
-use Rattle.std.proofs.lemmas.Slice.Eq.{bytes_eq-Decides}
-use Rattle.tp_model.specs.declared.limits.TheConstants.{MAX_HELD, PORT_BYTES}
-use Rattle.tp_model.specs.Bytes.{u16_bytes, u64_bytes, u16_at, u64_at, zeros, padded}
-use Rattle.tp_model.specs.CutImage.{is_port_of, port_at, port_bytes, port_with}
-use Rattle.tp_law_device.proofs.Cuts.{pending_count, outputs_count}
-use Rattle.tp_model.specs.Network.{Port}
+use Rattle.std.proofs.Common.{◌≡◌, ℕ, ◌+◌, ◌-◌, ◌<◌, ◌≤◌, List, ◌++◌, length, take, drop, get_or, refl, sym, ap, ◌∙◌, arith, append_assoc, true, false, cond, inl, inr, Fits, w8, ◌⊎◌, Some, None, length-take, length-drop}
+use Rattle.std.specs.Prelude.{◌&&◌, nat_le, bytes_eq}
+use Rattle.tp_area.proofs.Lower.{list_all, and_parts, leb-true, le-leb, cases_Bool, cases_lt, le_bytes_2, le_bytes_8, length-take-le, take-take, take_all, length-replicate, get_or-take, get_or-drop, get_or_past, bytes_eq-Decides, MAX_HELD, PORT_BYTES, u16_bytes, u64_bytes, u16_at, u64_at, zeros, padded, is_port_of, port_at, port_bytes, port_with, pending_count, outputs_count, Port}
 use Rattle.tp_area.specs.Ports.{is_port_at, is_zero, keeps_rules}
 use Rattle.tp_area.proofs.Parts.{u16_at-take, u64_at-take, part_of_part}
 use Rattle.tp_area.proofs.SameBytes.{and_assoc, piece_same, piece_compared, all_zeros}

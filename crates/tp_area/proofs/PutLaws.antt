@@ -1,18 +1,7 @@
 -- Pieces that are put one after the other are put as one.
 use Rattle.std.proofs.Common.{◌≡◌, ℕ, ◌+◌, ◌-◌, ◌≤◌, List, [], ◌∷◌, ◌++◌, length, take, drop, refl, sym, ap, subst, ◌∙◌, arith, add-zero, append_assoc, append-nil, length-append, length-drop, get_or, ◌<◌, inl, inr, Result, OnOk, OnErr}
 use Rattle.std.specs.Prelude.{flat_map}
-use Rattle.std.specs.List.{AllByRecursion}
-use Rattle.std.proofs.lemmas.Bool.{cases_lt}
-use Rattle.std.proofs.lemmas.Grind.{flat_map-append}
-use Rattle.std.proofs.lemmas.List.Folds.{length-flat_map-take}
-use Rattle.std.proofs.lemmas.List.{take_more, replicate-append-replicate, length-replicate, take_at, take-append-drop, drop-drop, length-take-le, get_or-take, get_or-drop}
-use Rattle.tp_model.specs.Disk.{Moment, MayBe, Write, IsWithin, SameOutside, written, done, within}
-use Rattle.tp_model.specs.DiskHistory.{State, MomentPassed, Fails, LeavesOnly}
-use Rattle.tp_model.specs.StoreCalls.{Called, put_calls}
-use Rattle.tp_disk.proofs.Moments.{written_same_outside, outside_last}
-use Rattle.tp_disk.proofs.Agree.{same_refl, same_sym, same_trans, same_wider, inside_written}
-use Rattle.tp_disk.proofs.Calls.{called_one, called_then, started, and_then, weaker, call_leaves}
-use Rattle.tp_model.specs.Bytes.{zeros}
+use Rattle.tp_area.proofs.Lower.{AllByRecursion, cases_lt, flat_map-append, length-flat_map-take, take_more, replicate-append-replicate, length-replicate, take_at, take-append-drop, drop-drop, length-take-le, get_or-take, get_or-drop, Moment, MayBe, Write, IsWithin, SameOutside, written, done, within, State, MomentPassed, Fails, LeavesOnly, Called, put_calls, written_same_outside, outside_last, same_refl, same_sym, same_trans, same_wider, inside_written, called_one, called_then, started, and_then, weaker, call_leaves, zeros}
 use Rattle.tp_area.specs.Puts.{ButFor, Puts}
 use Rattle.tp_area.proofs.Frames.{drop_behind}
 

@@ -1,10 +1,7 @@
 -- Bytes that are compared with a list written piece by piece.
 use Rattle.std.proofs.Common.{◌≡◌, ℕ, ◌+◌, List, [], ◌∷◌, ◌++◌, length, take, drop, refl, sym, ap, ◌∙◌, arith, Bool, true, false}
 use Rattle.std.specs.Prelude.{◌&&◌, nat_eq, bytes_eq}
-use Rattle.std.specs.List.{list_all}
-use Rattle.std.proofs.lemmas.Bool.{eq-eqb}
-use Rattle.std.proofs.lemmas.List.{take-append-drop, drop-drop}
-use Rattle.tp_model.specs.Bytes.{zeros}
+use Rattle.tp_area.proofs.Lower.{list_all, eq-eqb, take-append-drop, drop-drop, zeros}
 
 pub and_assoc : (a b c : Bool) → ((a && b) && c) ≡ (a && (b && c))
 and_assoc true b c = refl

@@ -1,22 +1,7 @@
 -- What a crash leaves within each of the calls that the store makes, and how the device rests after them.
-use Rattle.std.proofs.Common.{◌≡◌, ℕ, ◌+◌, ◌⊎◌, inl, inr, List, [], Option, Some, None, Result, Ok, Err, refl}
-use Rattle.std.specs.Option.{option_map}
-use Rattle.std.specs.Result.{result_ok}
-use Rattle.tp_model.specs.declared.entry.Entry.{Entry}
-use Rattle.tp_model.specs.declared.opening.OpenFault.{OpenFault}
-use Rattle.tp_model.specs.NodeState.{NodeState}
-use Rattle.tp_model.specs.Network.{Machine}
-use Rattle.tp_model.specs.Node.{t414, t414_ends}
-use Rattle.tp_model.specs.Disk.{Moment, Write, Sync, done}
-use Rattle.tp_model.specs.DiskHistory.{State, LeavesOnly}
-use Rattle.tp_model.specs.StoreCalls.{all_done, group_calls, clear_calls, switch_calls}
-use Rattle.tp_model.specs.Areas.{Areas, AreasHold, Held, ArePossible, with_more, gate_open, gate_closed}
-use Rattle.tp_model.specs.Opening.{Opened, held_of}
-use Rattle.tp_model.specs.DeviceAreas.{device_areas}
-use Rattle.tp_law_network.specs.Standing.{RestsBetweenGroups}
-use Rattle.tp_law_network.proofs.Device.{rests_may, clear_within, clear_written, clear_may, clear_synced, body_within, body_written, body_may, body_synced, gate_within, gate_written, gate_may, gate_synced, switch_within, switch_written, switch_may, switch_synced}
-use Rattle.tp_law_device.proofs.Holds.{areas_keep}
-use Rattle.tp_disk.proofs.Calls.{AllWithin, started}
+use Rattle.std.proofs.Common.{◌≡◌, ℕ, ◌+◌, ◌⊎◌, inl, inr, List, [], Some, None, Result, Ok, Err, refl}
+use Rattle.std.specs.Prelude.{Option}
+use Rattle.tp_area.proofs.Lower.{option_map, result_ok, Entry, OpenFault, NodeState, Machine, t414, t414_ends, Moment, Write, Sync, done, State, LeavesOnly, all_done, group_calls, clear_calls, switch_calls, Areas, AreasHold, Held, ArePossible, with_more, gate_open, gate_closed, Opened, held_of, device_areas, RestsBetweenGroups, rests_may, clear_within, clear_written, clear_may, clear_synced, body_within, body_written, body_may, body_synced, gate_within, gate_written, gate_may, gate_synced, switch_within, switch_written, switch_may, switch_synced, areas_keep, AllWithin, started}
 use Rattle.tp_area.specs.Crashes.{StandsOpened, OpensToEither, RestsAs}
 
 -- the areas of the device keep what crashes need

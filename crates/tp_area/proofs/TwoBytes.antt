@@ -1,7 +1,6 @@
 -- Numbers of two bytes, one after the other.
 use Rattle.std.proofs.Common.{◌≡◌, ℕ, suc, ◌+◌, ◌-◌, ◌<◌, List, [], ◌∷◌, ◌++◌, drop, sym, ap, ◌∙◌, arith, append_assoc}
-use Rattle.tp_model.specs.Bytes.{u16_at}
-use Rattle.tp_model.specs.Head.{u16s_at}
+use Rattle.tp_area.proofs.Lower.{u16_at, u16s_at}
 
 u16s_at-suc : (m n : ℕ) (bytes : List ℕ) → m ≡ suc n → u16s_at m bytes ≡ u16_at bytes 0 ∷ u16s_at n (drop 2 bytes)
 unfolding u16s_at

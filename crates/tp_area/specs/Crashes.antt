@@ -1,10 +1,6 @@
 -- What a crash during a call of the store leaves, by what it opens to.
 use Rattle.std.specs.Prelude.{◌≡◌, ◌⊎◌, ℕ, List, Some}
-use Rattle.tp_model.specs.NodeState.{NodeState}
-use Rattle.tp_model.specs.DiskHistory.{State}
-use Rattle.tp_model.specs.Areas.{Held}
-use Rattle.tp_model.specs.DeviceAreas.{device_areas}
-use Rattle.tp_law_network.specs.Standing.{RestsBetweenGroups}
+use Rattle.tp_area.specs.Lower.{NodeState, State, Held, device_areas, RestsBetweenGroups}
 
 -- opened, the bytes hold this
 abbrev pub StandsOpened : Held NodeState → List ℕ → Type 0

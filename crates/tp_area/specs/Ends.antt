@@ -1,8 +1,6 @@
 -- Which numbers of a head are those of ends.
 use Rattle.std.specs.Prelude.{ℕ, ◌-◌, ◌*◌, Bool, nat_lt, nat_le, if◌then◌else◌}
-use Rattle.tp_model.specs.declared.head.HeadVersion.{HeadVersion}
-use Rattle.tp_model.specs.declared.limits.TheConstants.{MAX_NODES, MAX_PORTS}
-use Rattle.tp_model.specs.Head.{first_port}
+use Rattle.tp_area.specs.Lower.{HeadVersion, MAX_NODES, MAX_PORTS, first_port}
 
 -- it is the number of no end, or of an end that a network may have: a link of one of its nodes, or one of its ports
 abbrev pub is_end_number : HeadVersion → ℕ → Bool

@@ -1,22 +1,6 @@
 -- What formatting a device answers, and what it writes.
 use Rattle.std.specs.Prelude.{◌≡◌, ◌≤◌, ◌⊎◌, ℕ, ◌*◌, Bool, true, false, List, [], ◌∷◌, ◌++◌, Option, Some, None, Result, Ok, Err}
-use Rattle.std.specs.List.{AllByRecursion}
-use Rattle.tp_model.specs.declared.areas.TwoAreas.{TwoAreas}
-use Rattle.tp_model.specs.declared.form.Form.TheVariants.{Turns}
-use Rattle.tp_model.specs.declared.limits.TheConstants.{GATE_OPEN, GATE_CLOSED}
-use Rattle.tp_model.specs.Bytes.{u32_bytes, u64_bytes}
-use Rattle.tp_model.specs.NodeState.{NodeState}
-use Rattle.tp_model.specs.Network.{Network}
-use Rattle.tp_model.specs.Topology.{Topology}
-use Rattle.tp_model.specs.Device.{area_start}
-use Rattle.tp_model.specs.Disk.{MayBe, Write, Sync, SameOutside, written}
-use Rattle.tp_model.specs.DiskHistory.{State, IsSynced}
-use Rattle.tp_model.specs.StoreCalls.{Called, put_calls}
-use Rattle.tp_model.specs.Areas.{gate_closed}
-use Rattle.tp_model.specs.CutImage.{base_number}
-use Rattle.tp_model.specs.Head.{head_bytes, version_for}
-use Rattle.tp_model.specs.Spelling.{front_bytes}
-use Rattle.tp_model.specs.Format.{start_of, IsFormatted}
+use Rattle.tp_area.specs.Lower.{AllByRecursion, TwoAreas, Turns, GATE_OPEN, GATE_CLOSED, u32_bytes, u64_bytes, NodeState, Network, Topology, area_start, MayBe, Write, Sync, SameOutside, written, State, IsSynced, Called, put_calls, gate_closed, base_number, head_bytes, version_for, front_bytes, start_of, IsFormatted}
 use Rattle.tp_area.specs.Puts.{ButFor}
 use Rattle.tp_area.specs.declared.fault.FormatFault.{FormatFault}
 use Rattle.tp_area.specs.declared.fault.FormatFault.TheVariants.{BadImage, Memory, AreaFull, DeviceFailed}

@@ -1,13 +1,6 @@
 -- The bytes before an area's cut image.
 use Rattle.std.specs.Prelude.{ℕ, ◌+◌, List, ◌++◌, Result, Ok}
-use Rattle.tp_model.specs.declared.form.Form.{Form}
-use Rattle.tp_model.specs.declared.opening.OpenFault.{OpenFault}
-use Rattle.tp_model.specs.Results.{◌>>=◌}
-use Rattle.tp_model.specs.Bytes.{u8_at, u32_bytes, u64_at, u64_bytes}
-use Rattle.tp_model.specs.CutImage.{base_number}
-use Rattle.tp_model.specs.Device.{generation_of, is_open}
-use Rattle.tp_model.specs.Opening.{base_of, front_in}
-use Rattle.tp_model.specs.Topology.{Topology}
+use Rattle.tp_area.specs.Lower.{Form, OpenFault, ◌>>=◌, u8_at, u32_bytes, u64_at, u64_bytes, base_number, generation_of, is_open, base_of, front_in, Topology}
 use Rattle.tp_area.specs.declared.front.AreaFront.{AreaFront}
 use Rattle.tp_area.specs.declared.front.CutFront.{CutFront}
 

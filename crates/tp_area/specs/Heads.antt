@@ -1,13 +1,6 @@
 -- A device's head by its first bytes, and by how many bytes the device has.
 use Rattle.std.specs.Prelude.{ℕ, Bool, not, ◌&&◌, if◌then◌else◌, List, take, Option, Some, None, Result, Ok, Err, bytes_eq}
-use Rattle.tp_model.specs.declared.head.HeadVersion.{HeadVersion}
-use Rattle.tp_model.specs.declared.opening.OpenFault.{OpenFault}
-use Rattle.tp_model.specs.declared.opening.OpenFault.TheVariants.{NotFormatted, BadVersion}
-use Rattle.tp_model.specs.Bytes.{u8_at}
-use Rattle.tp_model.specs.CutImage.{or_damaged}
-use Rattle.tp_model.specs.Device.{fits_device}
-use Rattle.tp_model.specs.Head.{Head, head_at, head_bytes, keeps_limits, magic, version_of}
-use Rattle.tp_model.specs.Topology.{Topology, is_topology}
+use Rattle.tp_area.specs.Lower.{HeadVersion, OpenFault, NotFormatted, BadVersion, u8_at, or_damaged, fits_device, Head, head_at, head_bytes, keeps_limits, magic, version_of, Topology, is_topology}
 
 -- the version that the bytes say, or why they are no head
 abbrev pub version_given : Option HeadVersion → Result HeadVersion OpenFault

@@ -1,3 +1,4 @@
+pub mod Lower
 pub mod Appended
 pub mod Capacity
 pub mod Checkpointed

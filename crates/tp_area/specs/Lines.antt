@@ -1,7 +1,6 @@
 -- The tokens on a line of a cut.
 use Rattle.std.specs.Prelude.{List, [], ◌∷◌}
-use Rattle.tp_model.specs.declared.link.Token.{Token}
-use Rattle.tp_model.specs.declared.link.Token.TheVariants.{Data as Byte, Ack as Answer}
+use Rattle.tp_area.specs.Lower.{Token, Byte, Answer}
 use Rattle.tp_area.specs.declared.line.LineTokens.{LineTokens}
 use Rattle.tp_area.specs.declared.line.LineTokens.TheVariants.{Empty, Data, Ack, DataAck, AckData}
 

@@ -1,14 +1,6 @@
 -- The area that isn't open, and what is done to it.
 use Rattle.std.specs.Prelude.{◌≡◌, ℕ, Bool, nat_lt, ◌+◌, false, not, if◌then◌else◌, List, [], ◌∷◌, length, Option, Some, None, Ok}
-use Rattle.tp_model.specs.Bytes.{u8_at}
-use Rattle.tp_model.specs.Device.{area_start, gate_of, is_open}
-use Rattle.tp_model.specs.Disk.{IsWithin}
-use Rattle.tp_model.specs.DiskHistory.{State, IsSynced}
-use Rattle.tp_model.specs.StoreCalls.{Called, clear_calls, put_calls, switch_calls}
-use Rattle.tp_model.specs.NodeState.{NodeState}
-use Rattle.tp_model.specs.Areas.{Held}
-use Rattle.tp_model.specs.DeviceAreas.{device_areas}
-use Rattle.tp_model.specs.Opening.{Opened, verdict}
+use Rattle.tp_area.specs.Lower.{u8_at, area_start, gate_of, is_open, IsWithin, State, IsSynced, Called, clear_calls, put_calls, switch_calls, NodeState, Held, device_areas, Opened, verdict}
 use Rattle.tp_area.specs.declared.place.Place.{Place}
 use Rattle.tp_area.specs.declared.fault.StoreFault.{StoreFault}
 use Rattle.tp_area.specs.declared.fault.StoreFault.TheVariants.{AreaFull, StoreBroken}

@@ -1,10 +1,6 @@
 -- The record of a port, whether it is valid or not, and the port that it says.
 use Rattle.std.specs.Prelude.{ℕ, ◌+◌, ◌-◌, Bool, ◌&&◌, ◌==◌, nat_le, List, take, drop, bytes_eq}
-use Rattle.std.specs.List.{list_all}
-use Rattle.tp_model.specs.declared.limits.TheConstants.{MAX_HELD, PORT_BYTES}
-use Rattle.tp_model.specs.Bytes.{u64_at}
-use Rattle.tp_model.specs.Network.{Port}
-use Rattle.tp_model.specs.CutImage.{is_port_of, port_at, port_bytes}
+use Rattle.tp_area.specs.Lower.{list_all, MAX_HELD, PORT_BYTES, u64_at, Port, is_port_of, port_at, port_bytes}
 use Rattle.tp_area.specs.declared.port.PortRecord.{PortRecord}
 
 -- the port that a record says

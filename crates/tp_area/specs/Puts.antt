@@ -1,9 +1,6 @@
 -- Bytes that are put on a device piece by piece.
 use Rattle.std.specs.Prelude.{◌≡◌, ℕ, List, length}
-use Rattle.std.specs.List.{AllByRecursion}
-use Rattle.tp_model.specs.Disk.{Moment, MayBe, IsWithin, SameOutside, written}
-use Rattle.tp_model.specs.DiskHistory.{State}
-use Rattle.tp_model.specs.StoreCalls.{Called, put_calls}
+use Rattle.tp_area.specs.Lower.{AllByRecursion, Moment, MayBe, IsWithin, SameOutside, written, State, Called, put_calls}
 
 -- The bytes were written from this place on, in pieces, and no other call was made. They aren't synced.
 pub record Puts (at : ℕ) (bytes : List ℕ) (old new : State) : Type 0 where

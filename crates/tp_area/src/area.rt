@@ -1,10 +1,7 @@
 //! How large an area has to be, and how large a device.
 
 ghost use Rattle.std.specs.Prelude.{◌≡◌, ◌+◌, ◌*◌, ◌^◌, ◌<◌};
-ghost use Rattle.tp_model.specs.declared.limits.TheConstants.{AREA_HEAD_BYTES};
-ghost use Rattle.tp_model.specs.Device.{fits_device};
-ghost use Rattle.tp_model.specs.Journal.{cut_length, entry_room, reserve};
-ghost use Rattle.tp_model.specs.Topology.{line_count};
+ghost use Rattle.tp_area.specs.Lower.{AREA_HEAD_BYTES, fits_device, cut_length, entry_room, reserve, line_count};
 
 use crate::journal::{JournalRoom, reserve};
 use crate::room::cut_length;

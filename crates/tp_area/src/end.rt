@@ -1,9 +1,7 @@
 //! The ends of wires as numbers.
 
 ghost use Rattle.std.specs.Prelude.{◌≡◌, ◌+◌, ◌*◌, ◌<◌, ◌≤◌, ℕ, true, map, length, get_or, None};
-ghost use Rattle.std.specs.List.{list_all};
-ghost use Rattle.tp_model.specs.declared.limits.TheConstants.{MAX_NODES, MAX_PORTS};
-ghost use Rattle.tp_model.specs.Head.{end_number, end_of_number, first_port};
+ghost use Rattle.tp_area.specs.Lower.{list_all, MAX_NODES, MAX_PORTS, end_number, end_of_number, first_port};
 ghost use Rattle.tp_area.specs.Ends.{is_end_number};
 
 use arrayvec::ArrayVec;

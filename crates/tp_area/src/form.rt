@@ -1,9 +1,7 @@
 //! The form of an area as a number, which follows the base of its cut.
 
 ghost use Rattle.std.specs.Prelude.{◌≡◌, ◌<◌};
-ghost use Rattle.tp_model.specs.declared.limits.TheConstants.{NUMBER_LIMIT};
-ghost use Rattle.tp_model.specs.CutImage.{base_number};
-ghost use Rattle.tp_model.specs.Opening.{form_at};
+ghost use Rattle.tp_area.specs.Lower.{NUMBER_LIMIT, base_number, form_at};
 
 use tp_model::Form;
 use tp_model::limits::{NUMBER_LIMIT, PLAIN_FORM, TURNS_FORM};

@@ -1,15 +1,7 @@
 //! Formatting a device.
 
 ghost use Rattle.std.specs.Prelude.{◌≡◌, ◌⊎◌, ◌+◌, ◌*◌, ◌^◌, ◌<◌, ◌≤◌, ◌++◌, true, map, flat_map, drop, length, is_ok, OnOk};
-ghost use Rattle.tp_model.specs.declared.limits.TheConstants.{LINE_BYTES, PORT_BYTES};
-ghost use Rattle.tp_model.specs.Bytes.{zeros};
-ghost use Rattle.tp_model.specs.Device.{areas_end, fits_device};
-ghost use Rattle.tp_model.specs.Disk.{SameOutside};
-ghost use Rattle.tp_model.specs.DiskHistory.{Counts, LeavesOnly};
-ghost use Rattle.tp_model.specs.Format.{start_of};
-ghost use Rattle.tp_model.specs.Head.{areas_of_length, version_for};
-ghost use Rattle.tp_model.specs.Journal.{cut_length, images_length};
-ghost use Rattle.tp_model.specs.Topology.{line_count};
+ghost use Rattle.tp_area.specs.Lower.{LINE_BYTES, PORT_BYTES, zeros, areas_end, fits_device, SameOutside, Counts, LeavesOnly, start_of, areas_of_length, version_for, cut_length, images_length, line_count};
 ghost use Rattle.tp_area.specs.Formatting.{FormatAnswer, Formatted, IsOldOrNew, Wrote, area_front, failed_calls, is_early, with_areas};
 ghost use Rattle.tp_area.specs.Puts.{ButFor, Puts};
 

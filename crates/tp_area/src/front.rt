@@ -1,8 +1,7 @@
 //! What an area begins with: its gate, its generation, the length of its cut image, the number of entries in the cut, and its form.
 
 ghost use Rattle.std.specs.Prelude.{◌≡◌, ◌≤◌, ◌<◌, ◌++◌, drop, length, IfOk};
-ghost use Rattle.tp_model.specs.Journal.{cut_length};
-ghost use Rattle.tp_model.specs.Topology.{Topology};
+ghost use Rattle.tp_area.specs.Lower.{cut_length, Topology};
 ghost use Rattle.tp_area.specs.Fronts.{area_front, fields_bytes, front_given};
 
 use crate::form::{base_number, form_at};

@@ -1,12 +1,7 @@
 //! The head of a device.
 
 ghost use Rattle.std.specs.Prelude.{◌≡◌, ◌≤◌, ◌<◌, ◌^◌, ◌&&◌, bytes_eq, true, length, IfOk, IfSome};
-ghost use Rattle.arrayvec.specs.ArrayVec.{array_vec_len};
-ghost use Rattle.tp_model.specs.declared.limits.TheConstants.{NARROW_HEAD_BYTES};
-ghost use Rattle.tp_model.specs.Device.{areas_end, fits_device};
-ghost use Rattle.tp_model.specs.Head.{head_bytes, head_length, keeps_limits};
-ghost use Rattle.tp_model.specs.Journal.{is_roomy};
-ghost use Rattle.tp_model.specs.Topology.{is_topology};
+ghost use Rattle.tp_area.specs.Lower.{array_vec_len, NARROW_HEAD_BYTES, areas_end, fits_device, head_bytes, head_length, keeps_limits, is_roomy, is_topology};
 ghost use Rattle.tp_area.specs.Heads.{fields_in, head_in, topology_at, version_in};
 
 use crate::area::fits;
@@ -39,10 +34,7 @@ pub struct Head {
 
 impl Model for Head {
     ghost use Rattle.std.specs.Prelude.{◌≡◌, ◌^◌, ◌<◌, true};
-    ghost use Rattle.tp_model.specs.Device.{areas_end};
-    ghost use Rattle.tp_model.specs.Head.{Head as Fields, head_length, keeps_limits};
-    ghost use Rattle.tp_model.specs.Journal.{is_roomy};
-    ghost use Rattle.tp_model.specs.Topology.{is_topology};
+    ghost use Rattle.tp_area.specs.Lower.{areas_end, Fields, head_length, keeps_limits, is_roomy, is_topology};
 
     ghost Value = { Fields };
 

@@ -1,23 +1,7 @@
 //! Laws of a device's places and of its rest. The functions do nothing; their contracts are the laws.
 
 ghost use Rattle.std.specs.Prelude.{◌≡◌, ◌≤◌, ◌<◌, ◌+◌, ◌*◌, ℕ, List, false, true, length, Some, None, Ok};
-ghost use Rattle.std.specs.List.{AllByRecursion};
-ghost use Rattle.tp_model.specs.declared.entry.Entry.{Entry};
-ghost use Rattle.tp_model.specs.EntryBytes.{IsSpelt};
-ghost use Rattle.tp_model.specs.Journal.{entry_room, is_roomy, room};
-ghost use Rattle.tp_model.specs.Topology.{Topology};
-ghost use Rattle.tp_model.specs.NodeState.{NodeState};
-ghost use Rattle.tp_model.specs.Disk.{IsWithin, MayBe};
-ghost use Rattle.tp_model.specs.DiskHistory.{IsSynced, State};
-ghost use Rattle.tp_model.specs.Areas.{Held};
-ghost use Rattle.tp_model.specs.DeviceAreas.{device_areas};
-ghost use Rattle.tp_model.specs.Node.{t414};
-ghost use Rattle.tp_model.specs.Opening.{Opened, held_of, verdict};
-ghost use Rattle.tp_model.specs.Runs.{HasCut, World, copy_of};
-ghost use Rattle.tp_model.specs.StoreCalls.{Called, put_calls};
-ghost use Rattle.tp_model.specs.Walks.{Walks};
-ghost use Rattle.tp_model.specs.WholeCut.{WholeCut};
-ghost use Rattle.tp_model.specs.WriteOrder.{Resting};
+ghost use Rattle.tp_area.specs.Lower.{AllByRecursion, Entry, IsSpelt, entry_room, is_roomy, room, Topology, NodeState, IsWithin, MayBe, IsSynced, State, Held, device_areas, t414, Opened, held_of, verdict, HasCut, World, copy_of, Called, put_calls, Walks, WholeCut, Resting};
 ghost use Rattle.tp_area.specs.declared.place.Place.{Place};
 ghost use Rattle.tp_area.specs.Appended.{append_refusal};
 ghost use Rattle.tp_area.specs.Crashes.{StandsOpened, RestsAs};

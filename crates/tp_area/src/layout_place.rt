@@ -1,11 +1,7 @@
 //! Where areas and the records of a cut are.
 
 ghost use Rattle.std.specs.Prelude.{◌≡◌, ◌+◌, ◌^◌, ◌<◌, ◌≤◌, true, length};
-ghost use Rattle.tp_model.specs.Device.{area_start};
-ghost use Rattle.tp_model.specs.Head.{areas_of_length};
-ghost use Rattle.tp_model.specs.Opening.{groups_place, lines_place, nodes_place, ports_place};
-ghost use Rattle.tp_model.specs.Topology.{is_topology};
-ghost use Rattle.tp_model.specs.declared.limits.TheConstants.{MAX_PAGES};
+ghost use Rattle.tp_area.specs.Lower.{area_start, areas_of_length, groups_place, lines_place, nodes_place, ports_place, is_topology, MAX_PAGES};
 ghost use Rattle.tp_area.specs.Pieces.{piece_place};
 
 use crate::front::FIELDS_BYTES;

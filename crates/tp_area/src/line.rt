@@ -1,12 +1,7 @@
 //! Records of lines.
 
 ghost use Rattle.std.specs.Prelude.{◌≡◌, ◌≤◌, ◌<◌, ◌*◌, true, if◌then◌else◌, Some, None, flat_map, length};
-ghost use Rattle.std.specs.List.{AllByRecursion};
-ghost use Rattle.std.specs.Option.{option_map};
-ghost use Rattle.arrayvec.specs.ArrayVec.{array_vec_len};
-ghost use Rattle.tp_model.specs.Network.{on_line};
-ghost use Rattle.tp_model.specs.CutImage.{is_line_of, line_bytes, line_with, tokens_of};
-ghost use Rattle.tp_model.specs.Spelling.{has_record};
+ghost use Rattle.tp_area.specs.Lower.{AllByRecursion, option_map, array_vec_len, on_line, is_line_of, line_bytes, line_with, tokens_of, has_record};
 ghost use Rattle.tp_area.specs.Lines.{tokens_on};
 
 use crate::written::put;

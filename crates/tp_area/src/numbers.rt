@@ -1,10 +1,7 @@
 //! Numbers one after the other, in one byte each or in two.
 
 ghost use Rattle.std.specs.Prelude.{◌≡◌, ◌+◌, ◌*◌, ◌≤◌, ◌<◌, ◌^◌, ◌++◌, ℕ, length, flat_map, get_or};
-ghost use Rattle.arrayvec.specs.ArrayVec.{array_vec_len};
-ghost use Rattle.tp_model.specs.declared.limits.TheConstants.{MAX_PORTS};
-ghost use Rattle.tp_model.specs.Bytes.{u16_bytes};
-ghost use Rattle.tp_model.specs.Head.{first_port, numbers_at, numbers_bytes, u16s_at};
+ghost use Rattle.tp_area.specs.Lower.{array_vec_len, MAX_PORTS, u16_bytes, first_port, numbers_at, numbers_bytes, u16s_at};
 
 use crate::written::put;
 use arrayvec::ArrayVec;

@@ -1,11 +1,7 @@
 //! Records of ports.
 
 ghost use Rattle.std.specs.Prelude.{◌≡◌, ◌+◌, ◌≤◌, ◌&&◌, length, take, drop, nat_le};
-ghost use Rattle.std.specs.List.{list_all};
-ghost use Rattle.std.specs.Option.{option_map};
-ghost use Rattle.arrayvec.specs.ArrayVec.{array_vec_len};
-ghost use Rattle.tp_model.specs.Bytes.{u64_at};
-ghost use Rattle.tp_model.specs.CutImage.{port_bytes, port_with};
+ghost use Rattle.tp_area.specs.Lower.{list_all, option_map, array_vec_len, u64_at, port_bytes, port_with};
 ghost use Rattle.tp_area.specs.Ports.{is_port_at, is_zero, keeps_rules, port_said};
 
 use crate::written::{pad, put};

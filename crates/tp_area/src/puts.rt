@@ -1,8 +1,7 @@
 //! Bytes put on a device piece by piece. They aren't synced.
 
 ghost use Rattle.std.specs.Prelude.{◌≡◌, ◌+◌, ◌^◌, ◌<◌, ◌≤◌, flat_map, length, is_ok, OnOk};
-ghost use Rattle.tp_model.specs.Bytes.{zeros};
-ghost use Rattle.tp_model.specs.DiskHistory.{Counts, LeavesOnly};
+ghost use Rattle.tp_area.specs.Lower.{zeros, Counts, LeavesOnly};
 ghost use Rattle.tp_area.specs.Puts.{ButFor, Puts};
 
 use tp_disk::{DeviceFailed, Disk};

@@ -1,9 +1,7 @@
 //! The versions of a head, and what each can state.
 
 ghost use Rattle.std.specs.Prelude.{◌≡◌, ◌≤◌, true, nat_le};
-ghost use Rattle.std.specs.List.{list_all};
-ghost use Rattle.tp_model.specs.Head.{head_length, head_nodes, head_pages, keeps_limits, version_byte, version_for, version_of};
-ghost use Rattle.tp_model.specs.Topology.{is_topology};
+ghost use Rattle.tp_area.specs.Lower.{list_all, head_length, head_nodes, head_pages, keeps_limits, version_byte, version_for, version_of, is_topology};
 
 use tp_model::HeadVersion;
 use tp_model::limits::{

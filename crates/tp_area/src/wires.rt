@@ -1,9 +1,7 @@
 //! The wires of all lines, by those of the links.
 
 ghost use Rattle.std.specs.Prelude.{◌≡◌, ◌+◌, ◌*◌, ◌≤◌, ◌<◌, ◌++◌, map, length, position, true, IfSome};
-ghost use Rattle.std.specs.List.{list_all, range_with_len};
-ghost use Rattle.arrayvec.specs.ArrayVec.{array_vec_len};
-ghost use Rattle.tp_model.specs.Head.{all_wires, end_of_number, is_port, port_wire};
+ghost use Rattle.tp_area.specs.Lower.{list_all, range_with_len, array_vec_len, all_wires, end_of_number, is_port, port_wire};
 ghost use Rattle.tp_area.specs.Ends.{is_end_number};
 
 use crate::end::ends_of;

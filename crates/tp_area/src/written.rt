@@ -1,8 +1,7 @@
 //! Records, as far as they are written.
 
 ghost use Rattle.std.specs.Prelude.{◌≡◌, ◌+◌, ◌≤◌, ◌++◌, length};
-ghost use Rattle.arrayvec.specs.ArrayVec.{array_vec_len};
-ghost use Rattle.tp_model.specs.Bytes.{padded};
+ghost use Rattle.tp_area.specs.Lower.{array_vec_len, padded};
 
 use arrayvec::ArrayVec;
 

@@ -1,13 +1,11 @@
 -- How the host's calls are answered, by what their tests say.
-use Rattle.std.proofs.Common.{◌≡◌, ℕ, ◌+◌, ◌<◌, ◌≤◌, Bool, true, false, cond, List, [], ◌∷◌, length, refl, sym, ap, subst, ◌∙◌, Option, Some, None}
-use Rattle.std.specs.Prelude.{◌==◌, is_some, Result, Ok, Err}
-use Rattle.std.proofs.lemmas.Bool.{le-leb, lt-leb}
-use Rattle.tp_model.specs.declared.entry.Entry.TheVariants.{Confirm}
+use Rattle.std.proofs.Common.{◌≡◌, ℕ, ◌+◌, ◌<◌, ◌≤◌, Bool, true, false, cond, List, [], ◌∷◌, length, refl, sym, ap, subst, ◌∙◌, Option, Some, None, Err}
+use Rattle.std.specs.Prelude.{◌==◌, is_some, Result, Ok}
+use Rattle.tp_book.proofs.Lower.{le-leb, lt-leb, Confirm, is_full_for_snapshot}
 use Rattle.tp_book.specs.declared.refusal.Refusal.{Refusal}
 use Rattle.tp_book.specs.declared.refusal.Refusal.TheVariants.{SnapshotRunning, StoreBroken, JournalFull, Memory}
 use Rattle.tp_book.specs.Book.{BookValue, next_in_book}
 use Rattle.tp_book.specs.Covered.{ReceiptValue}
-use Rattle.tp_model.specs.Journal.{is_full_for_snapshot}
 use Rattle.tp_book.specs.Marked.{begin_refusal}
 use Rattle.tp_book.specs.Host.{port_in, input_refusal, some_input_refusal, confirm_refusal}
 use Rattle.tp_book.specs.Inputs.{answer_to}

@@ -1,11 +1,6 @@
 -- The tokens on a line before its Marker, one by one.
 use Rattle.std.proofs.Common.{◌≡◌, ℕ, ◌+◌, ◌<◌, ◌≤◌, true, false, cond, List, [], ◌∷◌, ◌++◌, length, take, drop, set, sym, ap, ◌∙◌, arith, append-nil, append_assoc, length-append, Some, slice_get}
-use Rattle.std.proofs.lemmas.List.{drop_more, take_more, set-set}
-use Rattle.std.proofs.lemmas.Option.{get_or_from_slice_get, slice_get_within}
-use Rattle.tp_model.specs.declared.link.Token.{Token}
-use Rattle.tp_model.specs.Markers.{is_marker, before}
-use Rattle.tp_model.specs.Network.{on_line}
-use Rattle.tp_law_network.proofs.Lines.{on_set_same}
+use Rattle.tp_book.proofs.Lower.{drop_more, take_more, set-set, get_or_from_slice_get, slice_get_within, Token, is_marker, before, on_line, on_set_same}
 
 module _ (us : List Token) (i : ℕ) (t : Token) (at : slice_get us i ≡ Some t) where
   here : drop i us ≡ t ∷ drop (i + 1) us

@@ -1,12 +1,7 @@
 -- Walks over lines, and over the tokens of one.
-use Rattle.std.proofs.Common.{◌≡◌, ℕ, ◌+◌, ◌<◌, ◌≤◌, true, false, cond, List, [], ◌∷◌, length, drop, refl, sym, ap, ◌∙◌, arith, Some, slice_get}
-use Rattle.std.specs.Prelude.{◌&&◌, get_or}
-use Rattle.std.specs.List.{list_all}
-use Rattle.std.proofs.lemmas.List.{drop_more}
-use Rattle.std.proofs.lemmas.Option.{get_or_from_slice_get, slice_get_within}
-use Rattle.tp_model.specs.declared.link.Token.{Token}
-use Rattle.tp_model.specs.Markers.{is_marker}
-use Rattle.tp_model.specs.Network.{on_line}
+use Rattle.std.proofs.Common.{◌≡◌, ℕ, ◌+◌, ◌<◌, ◌≤◌, true, false, cond, List, [], ◌∷◌, length, drop, refl, sym, ap, ◌∙◌, arith, Some, slice_get, get_or}
+use Rattle.std.specs.Prelude.{◌&&◌}
+use Rattle.tp_book.proofs.Lower.{list_all, drop_more, get_or_from_slice_get, slice_get_within, Token, is_marker, on_line}
 use Rattle.tp_book.specs.Clear.{is_clear}
 
 -- what is at a place, and after it

@@ -1,8 +1,6 @@
 -- What an entry changes of the snapshot that runs.
 use Rattle.std.proofs.Common.{◌≡◌, ℕ, ◌+◌, ◌<◌, Bool, List, ◌∷◌, length, drop, get_or, ap, subst, sym, ◌∙◌, add-one, drop-cons}
-use Rattle.tp_model.specs.declared.link.Token.{Token}
-use Rattle.tp_model.specs.Network.{sent}
-use Rattle.tp_model.specs.Snapshot.{collected}
+use Rattle.tp_book.proofs.Lower.{Token, sent, collected}
 use Rattle.tp_book.specs.Room.{HasRoom}
 use Rattle.tp_book.proofs.Sending.{Next}
 

@@ -1,20 +1,7 @@
 -- Outputs confirmed, journalled.
 use Rattle.std.proofs.Common.{◌≡◌, ℕ, ◌+◌, ◌-◌, ◌<◌, ◌≤◌, cond, List, [], ◌∷◌, ◌++◌, length, map, set, drop, refl, sym, ap, subst, ◌∙◌, arith, Some, slice_get, length-set}
-use Rattle.std.specs.Prelude.{Vec, vec_len, vec_capacity, nat_lt, nat_le, ◌&&◌, length}
-use Rattle.std.specs.Option.{option_map}
-use Rattle.std.specs.declared.alloc.Global.{Global}
-use Rattle.std.proofs.lemmas.Bool.{lt-leb}
-use Rattle.std.proofs.lemmas.List.{map-set, length-drop}
-use Rattle.std.proofs.lemmas.Option.{slice_get-map, get_or_from_slice_get}
-use Rattle.tp_model.specs.declared.entry.Entry.{Entry}
-use Rattle.tp_model.specs.declared.link.Token.{Token}
-use Rattle.tp_model.specs.declared.entry.Entry.TheVariants.{Confirm}
-use Rattle.tp_model.specs.declared.limits.TheConstants.{NUMBER_LIMIT}
-use Rattle.tp_model.specs.NodeState.{NodeState}
-use Rattle.tp_model.specs.Network.{Port, OfHost, put, has_wire, taken, sent}
-use Rattle.tp_model.specs.Entries.{process, takes, confirmed, does}
-use Rattle.tp_model.specs.Halves.{BookState, without, with_half}
-use Rattle.tp_law_network.proofs.Partial.{cond_some}
+use Rattle.std.specs.Prelude.{Vec, vec_len, vec_capacity, nat_lt, nat_le, ◌&&◌}
+use Rattle.tp_book.proofs.Lower.{option_map, Global, lt-leb, map-set, length-drop, slice_get-map, get_or_from_slice_get, Entry, Token, Confirm, NUMBER_LIMIT, NodeState, Port, OfHost, put, has_wire, taken, sent, process, takes, confirmed, does, BookState, without, with_half, cond_some, slice_get_within}
 use Rattle.tp_book.specs.declared.port.HostPort.{HostPort}
 use Rattle.tp_book.specs.declared.journal.Journal.TheInside.{Inside}
 use Rattle.tp_book.specs.Kept.{BookKeeps}
@@ -34,7 +21,6 @@ use Rattle.tp_book.proofs.Counted.{counted_set}
 use Rattle.tp_book.specs.Kept.{AreRising}
 use Rattle.tp_book.proofs.Formed.{confirm_of}
 use Rattle.tp_book.proofs.Ranged.{confirm_in_range}
-use Rattle.std.proofs.lemmas.Option.{slice_get_within}
 use Rattle.tp_book.proofs.Rising.{rising_to, rising_drop, rising_set}
 
 -- what confirming leaves of a port

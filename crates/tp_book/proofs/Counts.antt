@@ -1,18 +1,8 @@
 -- Counts, as they are kept and as the definitions have them.
-use Rattle.std.proofs.Common.{◌≡◌, ℕ, zero, suc, ◌+◌, ◌<◌, Bool, true, false, cond, List, [], ◌∷◌, ◌++◌, length, get_or, set, replicate, refl, sym, ap, ◌∙◌, arith, Option, Some, None}
-use Rattle.std.specs.Prelude.{is_some}
-use Rattle.std.specs.List.{list_all}
-use Rattle.std.specs.Option.{option_map}
-use Rattle.tp_model.specs.WholeCut.{all_some}
+use Rattle.std.proofs.Common.{◌≡◌, ℕ, zero, suc, ◌+◌, ◌<◌, Bool, true, false, cond, List, [], ◌∷◌, ◌++◌, length, get_or, set, replicate, refl, sym, ap, ◌∙◌, arith, Option, Some, None, inl, inr, not}
+use Rattle.std.specs.Prelude.{is_some, ◌&&◌, ◌||◌}
+use Rattle.tp_book.proofs.Lower.{list_all, option_map, all_some, cases_Bool, true≢false, WireEnd, ◌>>=◌, Port, has_wire, Snapshot, first_snapshot, WholeCut, all_closed, whole_of, all_closed_at}
 use Rattle.tp_book.specs.Running.{counts_of}
-use Rattle.std.proofs.Common.{inl, inr}
-use Rattle.std.specs.Prelude.{◌&&◌, ◌||◌, not}
-use Rattle.std.proofs.lemmas.Bool.{cases_Bool, true≢false}
-use Rattle.tp_model.specs.declared.wire.WireEnd.{WireEnd}
-use Rattle.tp_model.specs.Network.{◌>>=◌, Port, has_wire}
-use Rattle.tp_model.specs.Snapshot.{Snapshot, first_snapshot}
-use Rattle.tp_model.specs.WholeCut.{WholeCut, all_closed, whole_of}
-use Rattle.tp_law_network.proofs.Whole.{all_closed_at}
 
 pub length-counts : (rs : List Bool) (cs : List ℕ) → length rs ≡ length cs → length (counts_of rs cs) ≡ length rs
 length-counts [] cs e = refl

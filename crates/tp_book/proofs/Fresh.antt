@@ -1,20 +1,7 @@
 -- A book at its start keeps what every book keeps.
 use Rattle.std.proofs.Common.{◌≡◌, ℕ, zero, suc, ◌+◌, ◌≤◌, false, cond, List, [], ◌∷◌, length, map, replicate, refl, sym, ap, subst, ◌∙◌, arith, Some, None, slice_get}
 use Rattle.std.specs.Prelude.{vec_len, count_by}
-use Rattle.std.proofs.lemmas.List.{length-map, length-replicate}
-use Rattle.std.proofs.lemmas.List.Sums.{sum_by-cons}
-use Rattle.tp_model.specs.declared.entry.Entry.{Entry}
-use Rattle.tp_model.specs.declared.form.Form.TheVariants.{Turns}
-use Rattle.tp_model.specs.NodeState.{NodeState}
-use Rattle.tp_model.specs.Node.{t414_ends}
-use Rattle.tp_model.specs.declared.link.Token.{Token}
-use Rattle.tp_model.specs.Image.{node_at}
-use Rattle.tp_model.specs.Network.{Network, Port, on_line}
-use Rattle.tp_model.specs.EntryBytes.{AreOf}
-use Rattle.tp_model.specs.Numbers.{AreNumbered}
-use Rattle.tp_model.specs.Order.{after}
-use Rattle.tp_model.specs.Sound.{Sound}
-use Rattle.tp_model.specs.Markers.{plain, markers, plain_network}
+use Rattle.tp_book.proofs.Lower.{length-map, length-replicate, sum_by-cons, Entry, Turns, NodeState, t414_ends, Token, node_at, Network, Port, on_line, AreOf, AreNumbered, after, Sound, plain, markers, plain_network}
 use Rattle.tp_book.specs.Book.{agreed}
 use Rattle.tp_book.specs.Kept.{BookKeeps, AreInRange}
 use Rattle.tp_book.specs.Counted.{IsCounted}

@@ -1,20 +1,8 @@
 -- What a node receives: links in order, taken off the fronts of their lines, up to each line's first Marker.
-use Rattle.std.proofs.Common.{◌≡◌, ℕ, ◌+◌, ◌*◌, ◌<◌, ◌≤◌, true, List, [], ◌∷◌, ◌++◌, length, map, drop, set, get_or, refl, sym, ap, subst, ◌∙◌, arith, add-one, drop-cons, Option, Some, None, IsSome, slice_get}
+use Rattle.std.proofs.Common.{◌≡◌, ℕ, ◌+◌, ◌*◌, ◌<◌, ◌≤◌, true, List, [], ◌∷◌, ◌++◌, length, map, drop, set, get_or, refl, sym, ap, subst, ◌∙◌, arith, add-one, drop-cons, Option, Some, None, IsSome, slice_get, length-append}
 use Rattle.std.specs.Prelude.{is_some}
-use Rattle.std.specs.List.{AllByRecursion}
-use Rattle.std.proofs.lemmas.Bool.{true≢false}
-use Rattle.std.proofs.lemmas.List.{length-append, length-map, map-append, drop_all}
-use Rattle.tp_model.specs.declared.link.Token.{Token}
-use Rattle.tp_model.specs.declared.link.Token.TheVariants.{Data, Ack, Marker}
-use Rattle.tp_model.specs.declared.link.Received.{Received}
-use Rattle.tp_model.specs.declared.link.Received.TheVariants.{Nothing, JustData, JustAck, DataThenAck, AckThenData}
-use Rattle.tp_model.specs.declared.wire.WireEnd.{WireEnd}
-use Rattle.tp_model.specs.Markers.{before}
-use Rattle.tp_model.specs.Network.{on_line, taken}
-use Rattle.tp_model.specs.Sound.{acks, datas}
-use Rattle.tp_model.specs.Turn.{by_line, by_link, incoming, received}
+use Rattle.tp_book.proofs.Lower.{AllByRecursion, true≢false, length-map, map-append, drop_all, Token, Data, Ack, Marker, Received, Nothing, JustData, JustAck, DataThenAck, AckThenData, WireEnd, before, on_line, taken, acks, datas, by_line, by_link, incoming, received, line_there, taken_cons}
 use Rattle.tp_book.specs.FirstTwo.{by_two}
-use Rattle.tp_law_network.proofs.Lines.{line_there, taken_cons}
 
 -- ## The tokens of all links
 

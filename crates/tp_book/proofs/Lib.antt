@@ -1,3 +1,4 @@
+pub mod Lower
 pub mod Answered
 pub mod Before
 pub mod Changes

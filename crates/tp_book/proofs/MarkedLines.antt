@@ -1,12 +1,6 @@
 -- A journal's fields, if Markers are sent or taken.
 use Rattle.std.proofs.Common.{◌≡◌, ℕ, ◌≤◌, true, List, length, map, set, drop, sym, ap, subst, ◌∙◌, arith, length-set}
-use Rattle.std.proofs.lemmas.List.{length-map}
-use Rattle.tp_model.specs.declared.link.Token.{Token}
-use Rattle.tp_model.specs.declared.link.Token.TheVariants.{Marker}
-use Rattle.tp_model.specs.Network.{has_wire, is_first, on_line, sent}
-use Rattle.tp_model.specs.Markers.{markers, plain, unmarked}
-use Rattle.tp_law_network.proofs.Lines.{length_sent}
-use Rattle.tp_law_network.proofs.CutsMarks.{AreMarkers, sent_markers, taken_marker, marker_gone, unmarked_all}
+use Rattle.tp_book.proofs.Lower.{length-map, Token, Marker, has_wire, is_first, on_line, sent, markers, plain, unmarked, length_sent, AreMarkers, sent_markers, taken_marker, marker_gone, unmarked_all}
 use Rattle.tp_book.specs.Room.{HasRoom}
 use Rattle.tp_book.proofs.Sending.{room_before}
 use Rattle.tp_book.specs.declared.journal.Journal.TheInside.{Inside}

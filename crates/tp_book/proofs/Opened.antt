@@ -1,29 +1,7 @@
 -- A book of an opened device keeps what every book keeps.
-use Rattle.std.proofs.Common.{◌≡◌, ℕ, ◌+◌, ◌<◌, ◌≤◌, false, inl, inr, List, [], ◌∷◌, length, map, get_or, replicate, refl, sym, ap, subst, ◌∙◌, arith, Some, None}
-use Rattle.std.specs.Prelude.{vec_len, count_by}
-use Rattle.std.specs.Option.{option_map}
-use Rattle.std.specs.Prelude.{Vec}
-use Rattle.std.specs.declared.alloc.Global.{Global}
-use Rattle.std.proofs.lemmas.Option.{slice_get-map, slice_get-get_or, get_or_from_slice_get}
-use Rattle.std.proofs.lemmas.Bool.{cases_Bool}
-use Rattle.std.proofs.lemmas.List.{length-map, length-replicate}
-use Rattle.tp_model.specs.declared.entry.Entry.{Entry}
-use Rattle.tp_model.specs.NodeState.{NodeState}
-use Rattle.tp_model.specs.Node.{t414, t414_ends}
-use Rattle.tp_model.specs.declared.link.Token.{Token}
-use Rattle.tp_model.specs.Image.{node_at}
-use Rattle.tp_model.specs.Network.{Network, on_line}
-use Rattle.tp_model.specs.EntryBytes.{AreOf}
-use Rattle.tp_model.specs.Numbers.{AreNumbered}
-use Rattle.tp_model.specs.Order.{after}
-use Rattle.tp_model.specs.Sound.{Sound}
-use Rattle.tp_model.specs.Markers.{is_marker, plain, markers, plain_network}
-use Rattle.tp_model.specs.Halves.{BookState, live}
-use Rattle.tp_law_network.proofs.Local.{SameShape}
-use Rattle.tp_law_network.proofs.Reorder.{after_shape}
-use Rattle.tp_law_network.proofs.Sound.{sound_small}
-use Rattle.tp_law_network.proofs.Room.{length-kinds, on_line-plain}
-use Rattle.tp_law_machine.proofs.LinkLaws.{has_four_links}
+use Rattle.std.proofs.Common.{◌≡◌, ℕ, ◌+◌, ◌<◌, ◌≤◌, false, inl, inr, List, [], ◌∷◌, length, map, get_or, replicate, refl, sym, ap, subst, ◌∙◌, arith, Some, None, slice_get, zero, suc}
+use Rattle.std.specs.Prelude.{vec_len, count_by, Vec}
+use Rattle.tp_book.proofs.Lower.{option_map, Global, slice_get-map, slice_get-get_or, get_or_from_slice_get, cases_Bool, length-map, length-replicate, Entry, NodeState, t414, t414_ends, Token, node_at, Network, on_line, AreOf, AreNumbered, after, Sound, is_marker, plain, markers, plain_network, BookState, live, SameShape, after_shape, sound_small, length-kinds, on_line-plain, has_four_links, Port}
 use Rattle.tp_book.specs.declared.port_parts.PortParts.{PortParts}
 use Rattle.tp_book.proofs.OpenedPorts.{opened_ports}
 use Rattle.tp_book.specs.declared.state.NetState.{NetState}
@@ -40,8 +18,6 @@ use Rattle.tp_book.proofs.Formed.{opened_form}
 use Rattle.tp_book.proofs.Fresh.{none_reserved}
 use Rattle.tp_book.specs.Kept.{IsRising}
 use Rattle.tp_book.proofs.Rising.{rising_zeros}
-use Rattle.std.proofs.Common.{slice_get, zero, suc}
-use Rattle.tp_model.specs.Network.{Port}
 
 -- without Markers there is none
 pub markers-plain : (ts : List Token) → markers (plain ts) ≡ 0

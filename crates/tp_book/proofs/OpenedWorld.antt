@@ -1,18 +1,6 @@
 -- The marked network of a book of an opened device.
 use Rattle.std.proofs.Common.{◌≡◌, ℕ, List, [], map, get_or, refl, sym, ap, subst, ◌∙◌, arith, Option, Some, None}
-use Rattle.tp_model.specs.declared.entry.Entry.{Entry}
-use Rattle.tp_model.specs.NodeState.{NodeState}
-use Rattle.tp_model.specs.Node.{t414}
-use Rattle.tp_model.specs.Network.{Network, on_line}
-use Rattle.tp_model.specs.Markers.{markers}
-use Rattle.tp_model.specs.Snapshot.{MarkedNetwork}
-use Rattle.tp_model.specs.Halves.{live}
-use Rattle.tp_model.specs.Acts.{IsOpened as IsFirst}
-use Rattle.tp_model.specs.Opening.{Opened}
-use Rattle.tp_model.specs.OpensTo.{book_of}
-use Rattle.tp_law_network.proofs.Reorder.{after_shape}
-use Rattle.tp_law_network.proofs.Room.{on_line-plain}
-use Rattle.tp_law_machine.proofs.LinkLaws.{has_four_links}
+use Rattle.tp_book.proofs.Lower.{Entry, NodeState, t414, Network, on_line, markers, MarkedNetwork, live, IsFirst, Opened, book_of, after_shape, on_line-plain, has_four_links}
 use Rattle.tp_book.specs.declared.state.NetState.{NetState}
 use Rattle.tp_book.specs.Book.{agreed, nodes_in, world_of}
 use Rattle.tp_book.specs.Opened.{cut_of, now_of, kept_entries, IsWellOpen, opened_book}

@@ -1,12 +1,6 @@
 -- The state of a node or of a port, as that of its process.
 use Rattle.std.proofs.Common.{◌≡◌, ℕ, ◌+◌, ◌*◌, ◌<◌, List, length, map, set, ap, ◌∙◌, arith, Option, Some, slice_get}
-use Rattle.std.specs.Option.{option_map}
-use Rattle.std.proofs.lemmas.Option.{slice_get_within}
-use Rattle.tp_model.specs.declared.link.Token.{Token}
-use Rattle.tp_model.specs.NodeState.{NodeState}
-use Rattle.tp_model.specs.Network.{Port, Network, Own, OfNode, OfHost, own}
-use Rattle.tp_model.specs.Entries.{of_port}
-use Rattle.tp_law_network.proofs.Local.{own-node}
+use Rattle.tp_book.proofs.Lower.{option_map, slice_get_within, Token, NodeState, Port, Network, Own, OfNode, OfHost, own, of_port, own-node}
 
 -- a node that is there is no host
 pub own_there : (s : Network NodeState) (i : ℕ) (n : NodeState) → slice_get s.nodes i ≡ Some n → own s i ≡ Some (OfNode n)

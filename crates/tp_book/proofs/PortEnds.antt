@@ -1,26 +1,7 @@
 -- What a book keeps of its ports. Each answers on a line of its own. A port can take the token at the front of a line that goes to it, if
 -- it has room.
 use Rattle.std.proofs.Common.{◌≡◌, ℕ, ◌+◌, ◌*◌, ◌<◌, ◌≤◌, true, false, cond, List, [], ◌∷◌, ◌++◌, length, get_or, refl, sym, ap, subst, ◌∙◌, arith, Option, Some, None, slice_get}
-use Rattle.std.specs.Option.{option_map}
-use Rattle.std.proofs.lemmas.Bool.{lt-ltb, leb-false}
-use Rattle.std.proofs.lemmas.List.{length-map}
-use Rattle.tp_model.specs.declared.link.Token.{Token}
-use Rattle.tp_model.specs.declared.link.Token.TheVariants.{Data, Ack, Marker}
-use Rattle.tp_model.specs.declared.wire.WireEnd.{WireEnd}
-use Rattle.tp_model.specs.declared.wire.WireEnd.TheVariants.{Port as AtPort}
-use Rattle.tp_model.specs.declared.limits.TheConstants.{MAX_HELD}
-use Rattle.tp_model.specs.NodeState.{NodeState}
-use Rattle.tp_model.specs.Word.{bit}
-use Rattle.tp_model.specs.Node.{t414_ends}
-use Rattle.tp_model.specs.Network.{Port, Network, own, receiver, is_wired, line_of, back, on_line, is_first}
-use Rattle.tp_model.specs.Entries.{in_flight}
-use Rattle.tp_model.specs.Sound.{acks, is_some_byte, is_pending, waits_at, end_waits}
-use Rattle.tp_model.specs.Markers.{plain, plain_network}
-use Rattle.tp_model.specs.Halves.{BookState, live}
-use Rattle.tp_law_machine.proofs.Bits.{bit_some}
-use Rattle.tp_law_network.proofs.Lines.{same_token-self}
-use Rattle.tp_law_network.proofs.Local.{own-host, owner_of_port}
-use Rattle.tp_law_network.proofs.Room.{on_line-plain, acks-plain}
+use Rattle.tp_book.proofs.Lower.{option_map, lt-ltb, leb-false, length-map, Token, Data, Ack, Marker, WireEnd, AtPort, MAX_HELD, NodeState, bit, t414_ends, Port, Network, own, receiver, is_wired, line_of, back, on_line, is_first, in_flight, acks, is_some_byte, is_pending, waits_at, end_waits, plain, plain_network, BookState, live, bit_some, same_token-self, own-host, owner_of_port, on_line-plain, acks-plain}
 use Rattle.tp_book.specs.Book.{agreed}
 use Rattle.tp_book.specs.Kept.{BookKeeps}
 use Rattle.tp_book.specs.Ports.{CanTake}

@@ -1,40 +1,14 @@
 -- Markers that are sent and taken leave what every book keeps.
-use Rattle.std.proofs.Common.{◌≡◌, ℕ, ◌+◌, ◌<◌, ◌≤◌, Bool, true, false, List, [], ◌∷◌, ◌++◌, length, map, set, get_or, replicate, zero, suc, drop, refl, sym, ap, subst, ◌∙◌, arith, length-set, Option, Some, None, slice_get}
-use Rattle.std.specs.Prelude.{is_some, not, length}
-use Rattle.std.specs.Option.{option_map}
-use Rattle.tp_model.specs.declared.link.Token.{Token}
-use Rattle.tp_model.specs.declared.link.Token.TheVariants.{Marker}
-use Rattle.tp_model.specs.NodeState.{NodeState}
-use Rattle.tp_model.specs.Node.{t414, t414_ends}
-use Rattle.tp_model.specs.Network.{has_wire, on_line, is_first, sent}
-use Rattle.tp_model.specs.Entries.{process}
-use Rattle.tp_model.specs.Order.{made}
-use Rattle.tp_model.specs.Sound.{Sound}
-use Rattle.tp_model.specs.Markers.{before, has_marker, markers, plain, plain_network, unmarked}
-use Rattle.tp_model.specs.Snapshot.{Snapshot, has_recorded, first_snapshot, with_count, with_closed, closed_over, host_markers, node_markers}
-use Rattle.tp_model.specs.Halves.{BookState, live, marked, with_begin, with_record, with_close, with_close_over}
-use Rattle.tp_model.specs.Acts.{Begin, Record, Close, happens}
-use Rattle.tp_law_machine.proofs.LinkLaws.{has_four_links, never_marks}
-use Rattle.tp_law_network.proofs.Begin.{made_past}
-use Rattle.tp_law_network.proofs.Lines.{on_set_same}
-use Rattle.tp_law_network.proofs.CutsMarks.{marker_there}
-use Rattle.tp_law_network.proofs.Whole.{running}
-use Rattle.tp_net.specs.declared.line.TheConstants.{LINE_TOKENS}
-use Rattle.tp_law_network.specs.Invariant.{CutInvariant}
-use Rattle.tp_law_network.proofs.CutsRoom.{few_markers}
-use Rattle.tp_law_network.proofs.Happens.{happens_holds}
-use Rattle.tp_law_network.proofs.Halves.{begin_joins, record_joins, close_joins, close_over_joins}
+use Rattle.std.proofs.Common.{◌≡◌, ℕ, ◌+◌, ◌<◌, ◌≤◌, Bool, true, false, List, [], ◌∷◌, ◌++◌, length, map, set, get_or, replicate, zero, suc, drop, refl, sym, ap, subst, ◌∙◌, arith, length-set, Option, Some, None, slice_get, not, inl, inr, get_or-set_same, get_or-set_other}
+use Rattle.std.specs.Prelude.{is_some}
+use Rattle.tp_book.proofs.Lower.{option_map, Token, Marker, NodeState, t414, t414_ends, has_wire, on_line, is_first, sent, process, made, Sound, before, has_marker, markers, plain, plain_network, unmarked, Snapshot, has_recorded, first_snapshot, with_count, with_closed, closed_over, host_markers, node_markers, BookState, live, marked, with_begin, with_record, with_close, with_close_over, Begin, Record, Close, happens, has_four_links, never_marks, made_past, on_set_same, marker_there, running, LINE_TOKENS, CutInvariant, few_markers, happens_holds, begin_joins, record_joins, close_joins, close_over_joins, and_parts, cases_eq, cases_lt, get_or_past, NUMBER_LIMIT}
 use Rattle.tp_book.specs.SnapCounted.{SnapshotsValue}
 use Rattle.tp_book.specs.Needs.{has_recorded_in, is_asked, KnowsLine, HasRoomBefore}
 use Rattle.tp_book.specs.Book.{BookValue, agreed, world_of}
 use Rattle.tp_book.specs.Kept.{BookKeeps, IsShaped}
 use Rattle.tp_book.specs.Joined.{book_joined, HasFloor, HostRecorded, BookStands}
-use Rattle.std.proofs.Common.{inl, inr, get_or-set_same, get_or-set_other}
-use Rattle.std.proofs.lemmas.Bool.{and_parts, cases_eq, cases_lt}
-use Rattle.std.proofs.lemmas.List.{get_or_past}
 use Rattle.tp_book.specs.Marked.{with_lines, after_begin, after_record, after_close, after_close_over, is_closable, taker_of}
 use Rattle.tp_book.proofs.Commit.{length-agreed}
-use Rattle.tp_model.specs.declared.limits.TheConstants.{NUMBER_LIMIT}
 use Rattle.tp_book.proofs.Told.{ages_kept, floor_kept}
 use Rattle.tp_book.proofs.Entered.{keeps_joined, cut_small}
 use Rattle.tp_book.proofs.Front.{front_begun, front_kept, front_recorded}

@@ -1,10 +1,7 @@
 -- Rising numbers, as the marks of outputs are: what keeps them rising, and how many of them are at most a mark.
 use Rattle.std.proofs.Common.{◌≡◌, ℕ, zero, suc, ◌+◌, ◌<◌, ◌≤◌, false, cond, inl, inr, List, [], ◌∷◌, ◌++◌, length, set, drop, get_or, replicate, refl, sym, ap, subst, ◌∙◌, arith, Some, slice_get, length-set}
 use Rattle.std.specs.Prelude.{count_by, nat_le}
-use Rattle.std.proofs.lemmas.Bool.{cases_eq, cases_Bool, leb-true, leb-false, lt-leb}
-use Rattle.std.proofs.lemmas.List.Sums.{sum_by-cons}
-use Rattle.std.proofs.lemmas.Option.{slice_get_within, slice_get-get_or}
-use Rattle.tp_law_network.proofs.Partial.{slice_get-set_same, slice_get-set_other}
+use Rattle.tp_book.proofs.Lower.{cases_eq, cases_Bool, leb-true, leb-false, lt-leb, sum_by-cons, slice_get_within, slice_get-get_or, slice_get-set_same, slice_get-set_other}
 use Rattle.tp_book.specs.Kept.{IsRising, AreRising}
 
 pub rising_from : (least low most : ℕ) (ns : List ℕ) → IsRising least most ns → low ≤ least → IsRising low most ns

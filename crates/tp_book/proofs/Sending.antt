@@ -1,13 +1,7 @@
 -- Room for what is sent.
-use Rattle.std.proofs.Common.{◌≡◌, ℕ, zero, suc, ◌+◌, ◌<◌, ◌≤◌, Bool, true, false, cond, List, [], ◌∷◌, ◌++◌, length, set, drop, get_or, refl, sym, ap, subst, ◌∙◌, arith, add-one, drop-cons, Option, Some, None}
-use Rattle.std.specs.Prelude.{is_some, ◌*◌, map, option_to_list}
-use Rattle.std.specs.List.{AllByRecursion}
-use Rattle.std.proofs.lemmas.List.{length-append}
-use Rattle.tp_model.specs.declared.link.Token.{Token}
-use Rattle.tp_model.specs.declared.wire.WireEnd.{WireEnd}
-use Rattle.tp_model.specs.Network.{is_wired, on_line, pushed, sent, for_line}
-use Rattle.tp_law_network.proofs.Lines.{length_pushed, sent_behind, on_pushed, for_line-here}
-use Rattle.tp_model.specs.Node.{on_link}
+use Rattle.std.proofs.Common.{◌≡◌, ℕ, zero, suc, ◌+◌, ◌<◌, ◌≤◌, Bool, true, false, cond, List, [], ◌∷◌, ◌++◌, length, set, drop, get_or, refl, sym, ap, subst, ◌∙◌, arith, add-one, drop-cons, Option, Some, None, ◌*◌, map, length-append}
+use Rattle.std.specs.Prelude.{is_some, option_to_list}
+use Rattle.tp_book.proofs.Lower.{AllByRecursion, Token, WireEnd, is_wired, on_line, pushed, sent, for_line, length_pushed, sent_behind, on_pushed, for_line-here, on_link}
 use Rattle.tp_book.specs.Room.{HasRoom, from_line}
 use Rattle.tp_book.specs.Sends.{on_lines, sends_on}
 

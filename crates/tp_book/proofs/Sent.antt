@@ -1,7 +1,6 @@
 -- Markers that are sent one after another.
 use Rattle.std.proofs.Common.{◌≡◌, ℕ, suc, ◌+◌, ◌*◌, ◌-◌, ◌<◌, [], ◌∷◌, ap, ◌∙◌, arith}
-use Rattle.tp_model.specs.declared.link.Token.TheVariants.{Marker}
-use Rattle.tp_model.specs.Snapshot.{host_markers}
+use Rattle.tp_book.proofs.Lower.{Marker, host_markers}
 
 -- the ports that are left, if there is one
 pub ports_left : (N ports done : ℕ) → done < ports → host_markers N (ports - done) ≡ (4 * N + (ports - 1 - done), Marker) ∷ host_markers N (ports - (done + 1))

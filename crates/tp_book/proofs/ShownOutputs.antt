@@ -1,9 +1,7 @@
 -- What a mark shows.
 use Rattle.std.proofs.Common.{◌≡◌, ℕ, ◌+◌, ◌≤◌, [], length, sym, ap, ◌∙◌, arith, Some, slice_get}
 use Rattle.std.specs.Prelude.{vec_len, nat_le}
-use Rattle.std.proofs.lemmas.List.Sums.{count_by-le-length}
-use Rattle.std.specs.Option.{option_map}
-use Rattle.std.proofs.lemmas.Option.{slice_get-map, get_or_from_slice_get}
+use Rattle.tp_book.proofs.Lower.{count_by-le-length, option_map, slice_get-map, get_or_from_slice_get}
 use Rattle.tp_book.specs.declared.journal.Journal.TheInside.{Inside}
 use Rattle.tp_book.specs.Inside.{value_of, IsJournal}
 use Rattle.tp_book.specs.Ports.{PortValue}

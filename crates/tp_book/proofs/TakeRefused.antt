@@ -1,13 +1,8 @@
 -- Why a take fails, once the token is known.
 use Rattle.std.proofs.Common.{◌≡◌, ◌≤◌, ◌+◌, ◌*◌, ℕ, Bool, true, false, length, get_or, refl, ap, ◌∙◌, arith, Option, Some, None, slice_get}
-use Rattle.std.proofs.lemmas.Bool.{lt-ltb, ltb-true}
 use Rattle.std.specs.Prelude.{◌||◌, is_none}
-use Rattle.tp_model.specs.declared.link.Token.{Token}
-use Rattle.tp_model.specs.declared.link.Token.TheVariants.{Marker}
-use Rattle.tp_model.specs.declared.wire.WireEnd.TheVariants.{Port as AtPort}
-use Rattle.tp_model.specs.Network.{receiver, on_line}
+use Rattle.tp_book.proofs.Lower.{lt-ltb, ltb-true, Token, Marker, AtPort, receiver, on_line, entry_room, reserve, is_past, has_no_numbers}
 use Rattle.tp_book.specs.declared.refusal.Refusal.TheVariants.{StoreBroken, NothingToTake, PortFull}
-use Rattle.tp_model.specs.Journal.{entry_room, reserve, is_past, has_no_numbers}
 use Rattle.tp_book.specs.Book.{BookValue, next_in_book, reserved}
 use Rattle.tp_book.specs.Refusals.{else_if, is_journal_full, is_full_for_take, take_refusal, takeable_of, is_full_for, port_behind, port_refusal, front_refusal}
 use Rattle.tp_book.proofs.PortEnds.{takeable_first}

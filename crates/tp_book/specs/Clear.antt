@@ -1,7 +1,6 @@
 -- Lines on which nothing is under way.
 use Rattle.std.specs.Prelude.{Bool, true, false, if◌then◌else◌, List, [], ◌∷◌}
-use Rattle.tp_model.specs.declared.link.Token.{Token}
-use Rattle.tp_model.specs.Markers.{is_marker}
+use Rattle.tp_book.specs.Lower.{Token, is_marker}
 
 -- a line has no token but Markers
 abbrev pub is_clear : List Token → Bool

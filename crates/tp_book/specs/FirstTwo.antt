@@ -1,9 +1,6 @@
 -- The tokens before a line's first Marker.
 use Rattle.std.specs.Prelude.{Option, Some, None}
-use Rattle.tp_model.specs.declared.link.Token.{Token}
-use Rattle.tp_model.specs.declared.link.Token.TheVariants.{Data, Ack, Marker}
-use Rattle.tp_model.specs.declared.link.Received.{Received}
-use Rattle.tp_model.specs.declared.link.Received.TheVariants.{Nothing, JustData, JustAck, DataThenAck, AckThenData}
+use Rattle.tp_book.specs.Lower.{Token, Data, Ack, Marker, Received, Nothing, JustData, JustAck, DataThenAck, AckThenData}
 
 -- by the first two tokens of a line with at most one Data and one Ack
 abbrev pub by_two : Option Token → Option Token → Received

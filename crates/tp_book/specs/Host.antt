@@ -1,13 +1,6 @@
 -- What the host does to a book: bytes that it hands in, outputs that it confirms, and what it is shown.
 use Rattle.std.specs.Prelude.{◌≡◌, ◌<◌, ◌≤◌, ℕ, ◌+◌, ◌-◌, ◌*◌, ◌==◌, nat_lt, nat_le, if◌then◌else◌, List, [], ◌∷◌, ◌++◌, length, map, set, drop, take, get_or, Option, Some, None, count_by}
-use Rattle.std.specs.List.{range_with_len}
-use Rattle.tp_model.specs.declared.link.Token.{Token}
-use Rattle.tp_model.specs.declared.link.Token.TheVariants.{Data}
-use Rattle.tp_model.specs.declared.entry.Entry.TheVariants.{HostIn, Confirm}
-use Rattle.tp_model.specs.declared.limits.TheConstants.{MAX_HELD}
-use Rattle.tp_model.specs.NodeState.{NodeState}
-use Rattle.tp_model.specs.Network.{Port, has_wire, sent}
-use Rattle.tp_model.specs.Halves.{BookState}
+use Rattle.tp_book.specs.Lower.{range_with_len, Token, Data, HostIn, Confirm, MAX_HELD, NodeState, Port, has_wire, sent, BookState}
 use Rattle.tp_book.specs.declared.refusal.Refusal.{Refusal}
 use Rattle.tp_book.specs.declared.refusal.Refusal.TheVariants.{StoreBroken, PortFull}
 use Rattle.tp_book.specs.Ports.{fresh_value}

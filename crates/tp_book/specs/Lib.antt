@@ -1,3 +1,4 @@
+pub mod Lower
 pub mod Acts
 pub mod Bare
 pub mod Book

@@ -1,13 +1,6 @@
 -- What the acts of a snapshot do to a book.
 use Rattle.std.specs.Prelude.{ℕ, Bool, ◌&&◌, List, length, set, drop, replicate, Option, Some, None, is_some, slice_get}
-use Rattle.std.specs.Option.{option_map}
-use Rattle.tp_model.specs.declared.link.Token.{Token}
-use Rattle.tp_model.specs.Network.{has_wire, process_at, receiver, on_line, sent}
-use Rattle.tp_model.specs.Entries.{process}
-use Rattle.tp_model.specs.Order.{made}
-use Rattle.tp_model.specs.Markers.{before, has_marker, unmarked}
-use Rattle.tp_model.specs.Snapshot.{first_snapshot, with_count, with_closed, closed_over, host_markers, node_markers}
-use Rattle.tp_model.specs.Journal.{is_full_for_snapshot}
+use Rattle.tp_book.specs.Lower.{option_map, Token, has_wire, process_at, receiver, on_line, sent, process, made, before, has_marker, unmarked, first_snapshot, with_count, with_closed, closed_over, host_markers, node_markers, is_full_for_snapshot}
 use Rattle.tp_book.specs.Needs.{has_recorded_in}
 use Rattle.tp_book.specs.declared.refusal.Refusal.{Refusal}
 use Rattle.tp_book.specs.declared.refusal.Refusal.TheVariants.{JournalFull, StoreBroken, SnapshotRunning}

@@ -1,10 +1,6 @@
 -- What a book needs of the snapshot that may run.
 use Rattle.std.specs.Prelude.{◌≡◌, ◌<◌, ◌≤◌, ◌++◌, ℕ, Bool, false, not, ◌&&◌, List, length, Option, Some, None}
-use Rattle.tp_model.specs.declared.link.Token.{Token}
-use Rattle.tp_model.specs.Markers.{before}
-use Rattle.tp_model.specs.Network.{on_line}
-use Rattle.tp_model.specs.Snapshot.{Snapshot, has_recorded, is_closed}
-use Rattle.tp_net.specs.declared.line.TheConstants.{LINE_TOKENS}
+use Rattle.tp_book.specs.Lower.{Token, before, on_line, Snapshot, has_recorded, is_closed, LINE_TOKENS}
 
 -- a snapshot runs in which the process has recorded
 abbrev pub has_recorded_in : Option Snapshot → ℕ → Bool

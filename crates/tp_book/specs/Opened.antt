@@ -1,18 +1,6 @@
 -- A book of an opened device.
 use Rattle.std.specs.Prelude.{[], ◌≡◌, ◌<◌, ◌≤◌, ℕ, ◌+◌, false, List, All, length, map, replicate, vec_len, Option, Some, None}
-use Rattle.tp_model.specs.declared.entry.Entry.{Entry}
-use Rattle.tp_model.specs.declared.form.Form.{Form}
-use Rattle.tp_model.specs.declared.form.Form.TheVariants.{Turns}
-use Rattle.tp_model.specs.declared.limits.TheConstants.{MAX_HELD, NUMBER_LIMIT}
-use Rattle.tp_model.specs.NodeState.{NodeState}
-use Rattle.tp_model.specs.EntryBytes.{AreOf}
-use Rattle.tp_model.specs.Image.{node_of}
-use Rattle.tp_model.specs.Node.{t414, t414_ends}
-use Rattle.tp_model.specs.Network.{Network}
-use Rattle.tp_model.specs.Numbers.{AreNumbered}
-use Rattle.tp_model.specs.Order.{after}
-use Rattle.tp_model.specs.Sound.{Sound}
-use Rattle.tp_model.specs.Markers.{plain}
+use Rattle.tp_book.specs.Lower.{Entry, Form, Turns, MAX_HELD, NUMBER_LIMIT, NodeState, AreOf, node_of, t414, t414_ends, Network, AreNumbered, after, Sound, plain}
 use Rattle.tp_book.specs.declared.state.NetState.{NetState}
 use Rattle.tp_book.specs.Parts.{network_made}
 use Rattle.tp_book.specs.Ports.{opened_port}

@@ -1,8 +1,6 @@
 -- A network as its parts, with each node as its image.
 use Rattle.std.specs.Prelude.{map}
-use Rattle.tp_model.specs.NodeState.{NodeState}
-use Rattle.tp_model.specs.Image.{node_at}
-use Rattle.tp_model.specs.Network.{Network}
+use Rattle.tp_book.specs.Lower.{NodeState, node_at, Network}
 use Rattle.tp_book.specs.PortParts.{port_made}
 use Rattle.tp_book.specs.declared.parts.NetParts.{NetParts}
 

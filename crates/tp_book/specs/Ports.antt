@@ -1,9 +1,6 @@
 -- Ports as the book holds them.
 use Rattle.std.specs.Prelude.{◌≡◌, ℕ, List, [], ◌∷◌, ◌++◌, length, replicate, Some}
-use Rattle.tp_model.specs.declared.link.Token.{Token}
-use Rattle.tp_model.specs.declared.link.Token.TheVariants.{Data, Ack, Marker}
-use Rattle.tp_model.specs.Network.{Port}
-use Rattle.tp_model.specs.Entries.{port_took}
+use Rattle.tp_book.specs.Lower.{Token, Data, Ack, Marker, Port, port_took}
 
 -- A port, and for each of its outputs the least mark that shows it: one more than the number of the entry that made it. Every mark shows
 -- what the opened state held.

@@ -1,13 +1,7 @@
 -- Why a call fails. If several reasons hold, the first one is answered, in this order: nothing to take, a snapshot that runs, a broken
 -- store, a full port, a full journal. `Memory` is only answered if none of them holds.
 use Rattle.std.specs.Prelude.{◌≡◌, ℕ, Bool, false, nat_le, if◌then◌else◌, List, [], ◌∷◌, length, get_or, Option, Some, None, is_none, Result, Ok, Err, slice_get}
-use Rattle.tp_model.specs.declared.link.Token.{Token}
-use Rattle.tp_model.specs.declared.link.Token.TheVariants.{Data, Ack, Marker}
-use Rattle.tp_model.specs.declared.wire.WireEnd.{WireEnd}
-use Rattle.tp_model.specs.declared.wire.WireEnd.TheVariants.{Link, Port as AtPort}
-use Rattle.tp_model.specs.declared.limits.TheConstants.{MAX_HELD}
-use Rattle.tp_model.specs.Network.{Port, process_at, receiver, on_line}
-use Rattle.tp_model.specs.Journal.{is_full, is_full_for_cut}
+use Rattle.tp_book.specs.Lower.{Token, Data, Ack, Marker, WireEnd, Link, AtPort, MAX_HELD, Port, process_at, receiver, on_line, is_full, is_full_for_cut}
 use Rattle.tp_book.specs.Needs.{is_needed}
 use Rattle.tp_book.specs.declared.refusal.Refusal.{Refusal}
 use Rattle.tp_book.specs.declared.refusal.Refusal.TheVariants.{JournalFull, StoreBroken, Memory, NothingToTake, PortFull}

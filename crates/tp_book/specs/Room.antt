@@ -1,8 +1,6 @@
 -- Room on lines.
 use Rattle.std.specs.Prelude.{◌≡◌, ◌<◌, ℕ, ◌+◌, Bool, true, List, [], ◌∷◌, map, length}
-use Rattle.tp_model.specs.declared.link.Token.{Token}
-use Rattle.tp_net.specs.declared.line.TheConstants.{LINE_TOKENS}
-use Rattle.tp_model.specs.Network.{on_line, pushed}
+use Rattle.tp_book.specs.Lower.{Token, LINE_TOKENS, on_line, pushed}
 
 -- The tokens can be sent in order: each finds room on its line, if that is open.
 abbrev pub HasRoom : (ℕ → Bool) → List (List Token) → List (ℕ × Token) → Type 0

@@ -1,7 +1,6 @@
 -- What only contracts see of a book's snapshots.
 use Rattle.std.specs.Prelude.{ℕ, List, Option}
-use Rattle.tp_model.specs.declared.entry.Entry.{Entry}
-use Rattle.tp_model.specs.NodeState.{NodeState}
+use Rattle.tp_book.specs.Lower.{Entry, NodeState}
 
 -- Each node's frozen image once it has recorded in the snapshot that runs, and all entries since the book was opened. Then how many entries
 -- there were after the kept cut when it was opened.

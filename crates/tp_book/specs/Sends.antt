@@ -1,8 +1,6 @@
 -- What goes out on which line.
 use Rattle.std.specs.Prelude.{ℕ, ◌+◌, ◌*◌, List, [], ◌∷◌, Option, Some, None}
-use Rattle.tp_model.specs.declared.link.Token.{Token}
-use Rattle.tp_model.specs.declared.wire.WireEnd.{WireEnd}
-use Rattle.tp_model.specs.declared.wire.WireEnd.TheVariants.{Link, Port as AtPort}
+use Rattle.tp_book.specs.Lower.{Token, WireEnd, Link, AtPort}
 use Rattle.tp_book.specs.Room.{from_line}
 
 -- the tokens that leave a node, by line

@@ -1,11 +1,6 @@
 -- A book at its start.
 use Rattle.std.specs.Prelude.{◌≡◌, ◌≤◌, ℕ, ◌+◌, ◌*◌, false, [], length, replicate, Option, None}
-use Rattle.tp_model.specs.NodeState.{NodeState}
-use Rattle.tp_model.specs.Node.{t414_ends}
-use Rattle.tp_model.specs.Network.{Network}
-use Rattle.tp_model.specs.Sound.{Sound}
-use Rattle.tp_model.specs.declared.form.Form.TheVariants.{Turns}
-use Rattle.tp_model.specs.declared.limits.TheConstants.{MAX_NODES, MAX_PORTS}
+use Rattle.tp_book.specs.Lower.{NodeState, t414_ends, Network, Sound, Turns, MAX_NODES, MAX_PORTS}
 use Rattle.tp_book.specs.Ports.{fresh_value}
 use Rattle.tp_book.specs.Book.{BookValue}
 

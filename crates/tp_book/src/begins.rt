@@ -1,10 +1,7 @@
 //! What a book of an opened device is to the laws of cuts and of runs.
 
 ghost use Rattle.std.specs.Prelude.{◌≡◌, ℕ, Option, map};
-ghost use Rattle.tp_model.specs.Node.{t414};
-ghost use Rattle.tp_model.specs.Acts.{IsOpened as IsFirst};
-ghost use Rattle.tp_model.specs.Opening.{Opened};
-ghost use Rattle.tp_model.specs.OpensTo.{book_of};
+ghost use Rattle.tp_book.specs.Lower.{t414, IsFirst, Opened, book_of};
 ghost use Rattle.tp_book.specs.declared.state.NetState.{NetState};
 ghost use Rattle.tp_book.specs.Book.{world_of};
 ghost use Rattle.tp_book.specs.Opened.{cut_of, kept_entries, now_of, IsWellOpen, opened_book};

@@ -1,9 +1,8 @@
 //! Whether anything is under way.
 
 ghost use Rattle.std.specs.Prelude.{◌≡◌, ◌<◌, length};
-ghost use Rattle.std.specs.List.{list_all};
+ghost use Rattle.tp_book.specs.Lower.{list_all, on_line};
 ghost use Rattle.tp_book.specs.Clear.{is_clear};
-ghost use Rattle.tp_model.specs.Network.{on_line};
 
 use crate::book::Book;
 use crate::journal::Journal;

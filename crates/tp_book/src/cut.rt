@@ -1,9 +1,7 @@
 //! The kept cut's network, which only contracts see.
 
 ghost use Rattle.std.specs.Prelude.{◌≡◌};
-ghost use Rattle.std.specs.Borrow.{ftrue};
-ghost use Rattle.tp_model.specs.NodeState.{NodeState};
-ghost use Rattle.tp_model.specs.Network.{Network};
+ghost use Rattle.tp_book.specs.Lower.{ftrue, NodeState, Network};
 
 use crate::parts::NetParts;
 use std::marker::Model;

@@ -1,9 +1,7 @@
 //! Lines and ports that hold something from the start.
 
 ghost use Rattle.std.specs.Prelude.{◌≡◌, ◌<◌, ◌≤◌, [], IfOk, length, map, set, vec_len, All};
-ghost use Rattle.tp_model.specs.Network.{on_line};
-ghost use Rattle.tp_model.specs.declared.limits.TheConstants.{MAX_HELD};
-ghost use Rattle.tp_net.specs.declared.line.TheConstants.{LINE_TOKENS};
+ghost use Rattle.tp_book.specs.Lower.{on_line, MAX_HELD, LINE_TOKENS};
 ghost use Rattle.tp_book.specs.PortParts.{port_made};
 ghost use Rattle.tp_book.specs.Ports.{opened_port};
 

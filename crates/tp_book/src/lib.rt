@@ -22,6 +22,7 @@ mod marking;
 mod note;
 mod open;
 mod parts;
+mod pending;
 mod port;
 mod port_parts;
 mod receipt;

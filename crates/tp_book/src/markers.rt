@@ -1,8 +1,7 @@
 //! Markers onto lines.
 
 ghost use Rattle.std.specs.Prelude.{◌≡◌, ◌≤◌, ◌+◌, ◌*◌, ◌^◌, length};
-ghost use Rattle.tp_model.specs.Network.{has_wire, sent};
-ghost use Rattle.tp_model.specs.Snapshot.{host_markers, node_markers};
+ghost use Rattle.tp_book.specs.Lower.{has_wire, sent, host_markers, node_markers};
 ghost use Rattle.tp_book.specs.Room.{HasRoom};
 
 use crate::{send_all, send_some};

@@ -1,11 +1,7 @@
 //! Markers on a journal's lines.
 
 ghost use Rattle.std.specs.Prelude.{◌≡◌, ◌≤◌, ◌<◌, ℕ, IfOk, OnErr, Some, None, true, drop, get_or, length, replicate, set, slice_get};
-ghost use Rattle.tp_model.specs.Markers.{before, has_marker, markers, unmarked};
-ghost use Rattle.tp_model.specs.Network.{has_wire, is_first, on_line, sent};
-ghost use Rattle.tp_model.specs.Snapshot.{closed_over, first_snapshot, host_markers, node_markers};
-ghost use Rattle.tp_model.specs.declared.link.Token.TheVariants.{Marker};
-ghost use Rattle.std.specs.Option.{option_map};
+ghost use Rattle.tp_book.specs.Lower.{before, has_marker, markers, unmarked, has_wire, is_first, on_line, sent, closed_over, first_snapshot, host_markers, node_markers, Marker, option_map};
 ghost use Rattle.tp_book.specs.Needs.{KnowsLine, HasRoomBefore};
 ghost use Rattle.tp_book.specs.Book.{agreed, count_of_nodes};
 ghost use Rattle.tp_book.specs.Marked.{with_lines};

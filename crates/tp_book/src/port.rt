@@ -6,6 +6,7 @@ ghost use Rattle.tp_book.specs.PortParts.{port_made};
 ghost use Rattle.tp_book.specs.Ports.{PortValue, marks_after, opened_port, CanTake};
 ghost use Rattle.tp_book.specs.Ports.{fresh_value};
 
+use crate::pending::Pending;
 use crate::port_parts::PortParts;
 use std::alloc::{AllocError, Global};
 use std::marker::Model;
@@ -15,7 +16,7 @@ use tp_model::limits::MAX_HELD;
 /// A port with room for all that it may hold.
 #[derive(Drop)]
 pub struct HostPort {
-    pending: Vec<u8>,
+    pending: Pending,
     in_base: u64,
     outputs: Vec<u8>,
     marks: Vec<u64>,
@@ -23,15 +24,15 @@ pub struct HostPort {
 }
 
 impl Model for HostPort {
-    ghost use Rattle.std.specs.Prelude.{◌≡◌, ◌≤◌, vec_len, vec_capacity};
+    ghost use Rattle.std.specs.Prelude.{◌≡◌, ◌≤◌, vec_len, vec_capacity, length};
     ghost use Rattle.tp_model.specs.declared.limits.TheConstants.{MAX_HELD};
     ghost use Rattle.tp_book.specs.Ports.{PortValue};
 
     ghost Value = { PortValue };
 
-    ghost view = { λ p. record { port = record { pending = p.pending.items; in_base = p.in_base; outputs = p.outputs.items; out_base = p.out_base }; marks = p.marks.items } };
+    ghost view = { λ p. record { port = record { pending = p.pending; in_base = p.in_base; outputs = p.outputs.items; out_base = p.out_base }; marks = p.marks.items } };
 
-    ghost invariant = { λ p. (MAX_HELD ≤ vec_capacity p.pending) × (MAX_HELD ≤ vec_capacity p.outputs) × (MAX_HELD ≤ vec_capacity p.marks) × (vec_len p.marks ≡ vec_len p.outputs) × (vec_len p.pending ≤ MAX_HELD) × (vec_len p.outputs ≤ MAX_HELD) };
+    ghost invariant = { λ p. (MAX_HELD ≤ vec_capacity p.outputs) × (MAX_HELD ≤ vec_capacity p.marks) × (vec_len p.marks ≡ vec_len p.outputs) × (length p.pending ≤ MAX_HELD) × (vec_len p.outputs ≤ MAX_HELD) };
 }
 
 impl HostPort {
@@ -40,7 +41,7 @@ impl HostPort {
         ensures { IfOk result (λ port. port ≡ fresh_value) }
     {
         Ok(HostPort {
-            pending: Vec::with_capacity(alloc, MAX_HELD)?,
+            pending: Pending::new(alloc)?,
             in_base: 0,
             outputs: Vec::with_capacity(alloc, MAX_HELD)?,
             marks: Vec::with_capacity(alloc, MAX_HELD)?,
@@ -55,7 +56,7 @@ impl HostPort {
         ensures { IfOk result (λ port. port ≡ opened_port (port_made parts.now)) }
     {
         let mut port = HostPort::new(alloc)?;
-        port.pending.extend_from_slice(&parts.pending)?;
+        port.pending.extend(&parts.pending)?;
         port.outputs.extend_from_slice(&parts.outputs)?;
         port.marks.resize(parts.outputs.len(), 0)?;
         port.in_base = parts.in_base;
@@ -84,7 +85,7 @@ impl HostPort {
                 Some(Token::Ack)
             }
             Token::Ack => {
-                let _first = self.pending.remove(0);
+                self.pending.take_off();
                 self.in_base += 1;
                 self.pending
                     .as_slice()
@@ -101,8 +102,8 @@ impl HostPort {
         ensures handed { handed_in byte self.old.port ≡ Some (self.new.port, option_to_list result) }
         ensures marks { self.new.marks ≡ self.old.marks }
     {
-        let is_first = self.pending.is_empty();
-        self.pending.push_reserved(byte);
+        let is_first = self.pending.as_slice().is_empty();
+        self.pending.push(byte);
         if is_first {
             Some(Token::Data(byte))
         } else {
@@ -161,7 +162,7 @@ impl HostPort {
 }
 
 /// Drops the first items. It takes no memory.
-fn drop_first<T: Drop>(items: &mut Vec<T>, count: usize)
+pub(crate) fn drop_first<T: Drop>(items: &mut Vec<T>, count: usize)
     requires { count ≤ vec_len items.old }
     ensures items { items.new.items ≡ drop count items.old.items }
     ensures len { vec_len items.new + count ≡ vec_len items.old }

@@ -1,8 +1,7 @@
 //! What a host gets for what it handed in.
 
 ghost use Rattle.std.specs.Prelude.{◌≡◌, ◌+◌, ◌<◌, ◌^◌, ◌∷◌, [], Some, None, length, map};
-ghost use Rattle.std.specs.Borrow.{ftrue};
-ghost use Rattle.tp_model.specs.declared.entry.Entry.TheVariants.{HostIn};
+ghost use Rattle.tp_book.specs.Lower.{ftrue, HostIn};
 ghost use Rattle.tp_book.specs.Covered.{Covering};
 
 use crate::note::Note;

@@ -1,12 +1,7 @@
 //! What a node receives before its turn: by link, and by the line that comes in there.
 
 ghost use Rattle.std.specs.Prelude.{◌≡◌, ◌++◌, ◌≤◌, ◌<◌, ◌^◌, IsSome, Some, length, map};
-ghost use Rattle.std.specs.List.{AllByRecursion};
-ghost use Rattle.tp_model.specs.Markers.{before};
-ghost use Rattle.tp_model.specs.Network.{on_line, taken};
-ghost use Rattle.tp_model.specs.Sound.{acks, datas};
-ghost use Rattle.tp_model.specs.Turn.{by_line, by_link, incoming, received};
-ghost use Rattle.tp_law_machine.specs.NodeOfBytes.{CarryBytes};
+ghost use Rattle.tp_book.specs.Lower.{AllByRecursion, before, on_line, taken, acks, datas, by_line, by_link, incoming, received, CarryBytes};
 ghost use Rattle.tp_book.specs.FirstTwo.{by_two};
 
 use arrayvec::ArrayVec;

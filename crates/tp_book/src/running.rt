@@ -1,14 +1,7 @@
 //! What a snapshot that runs has gathered.
 
 ghost use Rattle.std.specs.Prelude.{◌≡◌, ◌+◌, ◌<◌, ◌≤◌, ◌^◌, ◌++◌, ℕ, IfOk, Option, Some, List, length, map, get_or, true, not, ◌||◌, ◌∷◌, []};
-ghost use Rattle.std.specs.List.{AllByRecursion, list_all};
-ghost use Rattle.std.specs.Option.{option_copied};
-ghost use Rattle.tp_model.specs.Markers.{before};
-ghost use Rattle.tp_model.specs.Network.{has_wire, is_wired, on_line, pushed, sent};
-ghost use Rattle.tp_net.specs.declared.line.TheConstants.{LINE_TOKENS};
-ghost use Rattle.tp_model.specs.Snapshot.{first_snapshot, with_count, with_closed, closed_over, collected, has_recorded, is_closed};
-ghost use Rattle.tp_model.specs.WholeCut.{WholeCut, all_closed, whole_of};
-ghost use Rattle.tp_model.specs.declared.wire.WireEnd.{WireEnd};
+ghost use Rattle.tp_book.specs.Lower.{AllByRecursion, list_all, option_copied, before, has_wire, is_wired, on_line, pushed, sent, LINE_TOKENS, first_snapshot, with_count, with_closed, closed_over, collected, has_recorded, is_closed, WholeCut, all_closed, whole_of, WireEnd};
 ghost use Rattle.tp_book.specs.Room.{HasRoom};
 ghost use Rattle.tp_book.specs.SnapCounted.{FitsIn};
 

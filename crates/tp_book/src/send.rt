@@ -1,9 +1,7 @@
 //! Tokens onto their lines.
 
 ghost use Rattle.std.specs.Prelude.{◌≡◌, ℕ, ◌*◌, Some, ◌+◌, ◌<◌, [], ◌∷◌, length, map};
-ghost use Rattle.std.specs.List.{AllByRecursion};
-ghost use Rattle.tp_model.specs.Network.{has_wire, receiver, sent, pushed};
-ghost use Rattle.tp_model.specs.declared.wire.WireEnd.TheVariants.{Link};
+ghost use Rattle.tp_book.specs.Lower.{AllByRecursion, has_wire, receiver, sent, pushed, Link};
 ghost use Rattle.tp_book.specs.Sends.{answer_from, sends_on};
 ghost use Rattle.tp_book.specs.Room.{HasRoom, from_line};
 

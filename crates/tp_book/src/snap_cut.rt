@@ -1,9 +1,7 @@
 //! The cut that a snapshot gathers: `Cut`.
 
 ghost use Rattle.std.specs.Prelude.{◌≡◌, ◌+◌, ◌<◌, ◌≤◌, ◌^◌, ◌++◌, ◌∷◌, [], IfOk, length, map, set, replicate};
-ghost use Rattle.tp_model.specs.Markers.{before};
-ghost use Rattle.tp_model.specs.Network.{on_line};
-ghost use Rattle.tp_net.specs.declared.line.TheConstants.{LINE_TOKENS};
+ghost use Rattle.tp_book.specs.Lower.{before, on_line, LINE_TOKENS};
 ghost use Rattle.tp_book.specs.PortParts.{port_made};
 
 use crate::{HostPort, PortParts, all_parts};

@@ -4,12 +4,7 @@
 //! whole, and neither it nor its images change: `tp_law_network::whole_cuts_stay`.
 
 ghost use Rattle.std.specs.Prelude.{◌≡◌, ◌<◌, ◌+◌, Some, true, length, IfOk, OnErr};
-ghost use Rattle.std.specs.Option.{option_copied};
-ghost use Rattle.tp_model.specs.Acts.{Begin, Record, Close, CutHolds, happens};
-ghost use Rattle.tp_model.specs.Network.{is_first, on_line};
-ghost use Rattle.tp_model.specs.Node.{t414};
-ghost use Rattle.tp_model.specs.WholeCut.{WholeCut, IsWhole, whole};
-ghost use Rattle.tp_model.specs.declared.link.Token.TheVariants.{Marker};
+ghost use Rattle.tp_book.specs.Lower.{option_copied, Begin, Record, Close, CutHolds, happens, is_first, on_line, t414, WholeCut, IsWhole, whole, Marker};
 ghost use Rattle.tp_book.specs.Needs.{has_recorded_in, is_asked};
 ghost use Rattle.tp_book.specs.Book.{count_of_nodes, world_of};
 ghost use Rattle.tp_book.specs.Marked.{after_begin, after_record, after_close, after_close_over, is_closable, taker_of, begin_refusal};

@@ -1,9 +1,7 @@
 //! Values that only contracts see.
 
 ghost use Rattle.std.specs.Prelude.{◌≡◌, ◌++◌, ◌∷◌, [], ℕ, Option, None, map, set, replicate};
-ghost use Rattle.std.specs.Borrow.{ftrue};
-ghost use Rattle.tp_model.specs.declared.entry.Entry.TheVariants.{HostIn};
-ghost use Rattle.tp_model.specs.NodeState.{NodeState};
+ghost use Rattle.tp_book.specs.Lower.{ftrue, HostIn, NodeState};
 ghost use Rattle.tp_book.specs.Seen.{Seen};
 
 use std::marker::Model;

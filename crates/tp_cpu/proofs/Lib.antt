@@ -1,3 +1,4 @@
+pub mod Lower
 pub mod Advances
 pub mod Ahead
 pub mod Asks

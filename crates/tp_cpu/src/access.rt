@@ -1,8 +1,7 @@
 //! Reads and writes of memory, as parts of a step.
 
 ghost use Rattle.std.specs.Prelude.{◌≡◌, [], ◌∷◌, ◌++◌};
-ghost use Rattle.tp_model.specs.Memory.{byte_at, word_at, stored, byte_stored, copied, changed};
-ghost use Rattle.tp_model.specs.SharedPages.{word_ranges, block_ranges, kept_after};
+ghost use Rattle.tp_cpu.specs.Lower.{byte_at, word_at, stored, byte_stored, copied, changed, word_ranges, block_ranges, kept_after};
 ghost use Rattle.tp_cpu.specs.Ends.{Finds, Writes};
 
 use crate::undone::{BAD_ADDRESS, Undone};

@@ -2,9 +2,8 @@
 //! what they would after the first word, and one call makes all writes.
 
 ghost use Rattle.std.specs.Prelude.{◌≡◌, [], ◌∷◌, ◌++◌, Some};
-ghost use Rattle.tp_model.specs.Memory.{word_offset};
+ghost use Rattle.tp_cpu.specs.Lower.{word_offset, word_ranges, block_ranges, kept_after};
 ghost use Rattle.tp_cpu.specs.After.{word_after, stored_after, changed_behind};
-ghost use Rattle.tp_model.specs.SharedPages.{word_ranges, block_ranges, kept_after};
 ghost use Rattle.tp_cpu.specs.AfterWrites.{first_ranges};
 ghost use Rattle.tp_cpu.specs.Ends.{Finds, Writes};
 

@@ -1,10 +1,7 @@
 //! Alternatives: a process waits for the first of several partners.
 
 ghost use Rattle.std.specs.Prelude.{◌≡◌};
-ghost use Rattle.tp_model.specs.Processor.{with_a, without_b};
-ghost use Rattle.tp_model.specs.Alternative.{is_alternative, signalled, passed_over, chosen, alt, enbs, altwt, choose, diss};
-ghost use Rattle.tp_model.specs.SharedPages.{kept_after};
-ghost use Rattle.tp_model.specs.StepWrites.{alt_ranges, enbs_ranges, altwt_ranges, choose_ranges, diss_ranges};
+ghost use Rattle.tp_cpu.specs.Lower.{with_a, without_b, is_alternative, signalled, passed_over, chosen, alt, enbs, altwt, choose, diss, kept_after, alt_ranges, enbs_ranges, altwt_ranges, choose_ranges, diss_ranges};
 ghost use Rattle.tp_cpu.specs.Ends.{Does};
 
 use crate::access::{load, store, store_all};

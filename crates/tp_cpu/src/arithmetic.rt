@@ -1,8 +1,7 @@
 //! Arithmetic on words.
 
 ghost use Rattle.std.specs.Prelude.{◌≡◌, ◌-◌, ◌^◌, ◌+ℤ◌, ◌-ℤ◌, ◌*ℤ◌, ◌==◌, ◌||◌, ◌&&◌, false, not, int_div};
-ghost use Rattle.tp_model.specs.Word.{most_neg, signed, word_of, fits};
-ghost use Rattle.tp_model.specs.Registers.{shl, shr};
+ghost use Rattle.tp_cpu.specs.Lower.{most_neg, signed, word_of, fits, shl, shr};
 
 /// The most negative word.
 pub const MOST_NEG: u32 = 0x8000_0000;

@@ -1,11 +1,8 @@
 //! Channels: two processes meet at a word of memory.
 
 ghost use Rattle.std.specs.Prelude.{◌≡◌, ◌++◌};
-ghost use Rattle.tp_model.specs.Alternative.{signal_writes};
-ghost use Rattle.tp_model.specs.Channel.{channel_at, wait_writes, waits_first, meets, waits_for_alternative, input, output, input_at, output_at, output_word_at, enable, enable_at, disable, disable_at};
+ghost use Rattle.tp_cpu.specs.Lower.{signal_writes, channel_at, wait_writes, waits_first, meets, waits_for_alternative, input, output, input_at, output_at, output_word_at, enable, enable_at, disable, disable_at, word_ranges, kept_after, waits_first_ranges, meets_ranges, waits_for_alternative_ranges, input_ranges, output_ranges, input_at_ranges, output_at_ranges, output_word_at_ranges, enable_ranges, enable_at_ranges, disable_ranges, disable_at_ranges};
 ghost use Rattle.tp_cpu.specs.After.{after, stored_after};
-ghost use Rattle.tp_model.specs.SharedPages.{word_ranges, kept_after};
-ghost use Rattle.tp_model.specs.StepWrites.{waits_first_ranges, meets_ranges, waits_for_alternative_ranges, input_ranges, output_ranges, input_at_ranges, output_at_ranges, output_word_at_ranges, enable_ranges, enable_at_ranges, disable_ranges, disable_at_ranges};
 ghost use Rattle.tp_cpu.specs.AfterWrites.{first_ranges, after_ranges};
 ghost use Rattle.tp_cpu.specs.Ends.{Does, Writes};
 

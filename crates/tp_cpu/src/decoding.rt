@@ -1,8 +1,7 @@
 //! Reading instructions.
 
 ghost use Rattle.std.specs.Prelude.{◌≡◌, ℕ, ◌+◌, ◌/◌, ◌%◌, ◌≤◌, List, ◌∷◌, true, false, Some, IfNone, OnSome, MatchOption};
-ghost use Rattle.tp_model.specs.Word.{wrap};
-ghost use Rattle.tp_model.specs.Coding.{is_prefix, prefixed, fun_of, op_of, instr_at, reads, decoded};
+ghost use Rattle.tp_cpu.specs.Lower.{wrap, is_prefix, prefixed, fun_of, op_of, instr_at, reads, decoded};
 
 use tp_model::{DecodeFault, Fun, Instr, Op};
 

@@ -1,9 +1,7 @@
 //! Writing instructions.
 
 ghost use Rattle.std.specs.Prelude.{◌≡◌, ◌+◌, ◌<◌, ◌≤◌, [], ◌++◌, OnOk, OnErr};
-ghost use Rattle.std.specs.Int.{cast_unsigned, w32};
-ghost use Rattle.arrayvec.specs.ArrayVec.{array_vec_len};
-ghost use Rattle.tp_model.specs.Coding.{code, coded, natural, spelling};
+ghost use Rattle.tp_cpu.specs.Lower.{cast_unsigned, w32, array_vec_len, code, coded, natural, spelling};
 
 use arrayvec::ArrayVec;
 use std::alloc::AllocError;

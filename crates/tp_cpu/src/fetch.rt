@@ -1,8 +1,7 @@
 //! Fetching an instruction.
 
 ghost use Rattle.std.specs.Prelude.{◌≡◌, drop};
-ghost use Rattle.tp_model.specs.Memory.{offset};
-ghost use Rattle.tp_model.specs.Coding.{decoded};
+ghost use Rattle.tp_cpu.specs.Lower.{offset, decoded};
 
 use crate::Decoder;
 use tp_mem::Mem;

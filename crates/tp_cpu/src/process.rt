@@ -1,11 +1,8 @@
 //! How a process starts, stops, makes room and is interrupted.
 
 ghost use Rattle.std.specs.Prelude.{◌≡◌, [], ◌∷◌, option_to_list};
-ghost use Rattle.tp_model.specs.Processor.{emptied, started, dispatch_high, dispatch_low, stopped, stop, counted, past, must_slice, sliced, jump, interrupt, restore};
-ghost use Rattle.tp_model.specs.Step.{startp, runp, endp};
+ghost use Rattle.tp_cpu.specs.Lower.{emptied, started, dispatch_high, dispatch_low, stopped, stop, counted, past, must_slice, sliced, jump, interrupt, restore, startp, runp, endp, kept_after, nowhere_ranges, stop_ranges, jump_ranges, interrupt_ranges, restore_ranges, startp_ranges, runp_ranges, endp_ranges};
 ghost use Rattle.tp_cpu.specs.Room.{makes_room, makes_room_ranges};
-ghost use Rattle.tp_model.specs.SharedPages.{kept_after};
-ghost use Rattle.tp_model.specs.StepWrites.{nowhere_ranges, stop_ranges, jump_ranges, interrupt_ranges, restore_ranges, startp_ranges, runp_ranges, endp_ranges};
 ghost use Rattle.tp_cpu.specs.Ends.{Does};
 
 use crate::access::{load, store, store_all};

@@ -1,10 +1,7 @@
 //! The two queues of processes that are ready.
 
 ghost use Rattle.std.specs.Prelude.{◌≡◌, option_to_list};
-ghost use Rattle.tp_model.specs.Memory.{stored};
-ghost use Rattle.tp_model.specs.Outcome.{leaves};
-ghost use Rattle.tp_model.specs.Processor.{link_writes, joined, queue_writes, queued, rest_of_queue};
-ghost use Rattle.tp_model.specs.SharedPages.{word_ranges, kept_after};
+ghost use Rattle.tp_cpu.specs.Lower.{stored, leaves, link_writes, joined, queue_writes, queued, rest_of_queue, word_ranges, kept_after};
 ghost use Rattle.tp_cpu.specs.Ends.{Does, Finds};
 
 use crate::access::{load, store};

@@ -1,9 +1,7 @@
 //! One step.
 
 ghost use Rattle.std.specs.Prelude.{◌≡◌, Ok};
-ghost use Rattle.tp_model.specs.Step.{executed, instruction, idle, in_state, step_of, MakesStep};
-ghost use Rattle.tp_model.specs.SharedPages.{LacksFrames, kept_after};
-ghost use Rattle.tp_model.specs.StepWrites.{executed_ranges, instruction_ranges, idle_ranges, in_state_ranges, step_ranges};
+ghost use Rattle.tp_cpu.specs.Lower.{executed, instruction, idle, in_state, step_of, MakesStep, LacksFrames, kept_after, executed_ranges, instruction_ranges, idle_ranges, in_state_ranges, step_ranges};
 ghost use Rattle.tp_cpu.specs.Ends.{Does};
 ghost use Rattle.tp_cpu.specs.Acts.{Acts, AsksLink, WhereNoFrame, kept_acted, kept_past, fault_of};
 

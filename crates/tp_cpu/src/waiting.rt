@@ -1,10 +1,7 @@
 //! How a process waits as the first at a channel, without the detour over why it doesn't.
 
 ghost use Rattle.std.specs.Prelude.{◌≡◌};
-ghost use Rattle.tp_model.specs.Channel.{waits_first};
-ghost use Rattle.tp_model.specs.Coding.{fun_of};
-ghost use Rattle.tp_model.specs.Step.{operate};
-ghost use Rattle.tp_model.specs.StepWrites.{waits_first_ranges, operate_ranges};
+ghost use Rattle.tp_cpu.specs.Lower.{waits_first, fun_of, operate, waits_first_ranges, operate_ranges};
 ghost use Rattle.tp_cpu.specs.Advance.{WasDone, LeadsByOne, effect_at, ranges_at};
 
 use crate::advancing::runs;

@@ -1,9 +1,6 @@
 -- Contents that are equal outside one range, and what a crash may leave as such contents.
 use Rattle.std.proofs.Common.{◌≡◌, ℕ, ◌+◌, ◌-◌, ◌<◌, ◌≤◌, ◌⊎◌, inl, inr, List, [], ◌++◌, length, take, drop, get_or, refl, sym, ap, ◌∙◌, arith, min, length-append, length-drop}
-use Rattle.std.proofs.lemmas.Bool.{cases_lt}
-use Rattle.std.proofs.lemmas.List.{length-take, length-take-le, get_or_append_left, get_or-take, get_or-append_right, get_or-drop, get_or_past}
-use Rattle.std.proofs.lemmas.Grind.{same_number_lists}
-use Rattle.tp_model.specs.Disk.{IsWithin, SameOutside, written}
+use Rattle.tp_disk.proofs.Lower.{cases_lt, length-take, length-take-le, get_or_append_left, get_or-take, get_or-append_right, get_or-drop, get_or_past, same_number_lists, IsWithin, SameOutside, written}
 use Rattle.tp_disk.proofs.Moments.{outside_inner}
 
 -- ## The relation

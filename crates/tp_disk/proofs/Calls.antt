@@ -1,10 +1,6 @@
 -- Calls in order: where they lead, what breaks, and what a crash on the way may leave.
-use Rattle.std.proofs.Common.{◌≡◌, ℕ, ◌+◌, ◌≤◌, ◌⊎◌, inl, inr, List, [], ◌∷◌, ◌++◌, length, drop, refl, sym, ap, subst, ◌∙◌, arith, append_assoc, append-nil, length-append, Result, Ok, Err, OnOk, OnErr}
-use Rattle.std.proofs.lemmas.List.{drop-append-le}
-use Rattle.std.proofs.Math.Seq.{drop-length}
-use Rattle.tp_model.specs.Disk.{Moment, MayBe, IsOutside, Call, Write, Sync, Read, written, done, within, broken, SameOutside}
-use Rattle.tp_model.specs.DiskHistory.{State, MomentPassed, Fails, IsSynced, SomeMay, MayHaveLeft, moment, LeavesOnly}
-use Rattle.tp_model.specs.StoreCalls.{all_done, moments_of, Called, Broke}
+use Rattle.std.proofs.Common.{◌≡◌, ℕ, ◌+◌, ◌≤◌, ◌⊎◌, inl, inr, List, [], ◌∷◌, ◌++◌, length, drop, refl, sym, ap, subst, ◌∙◌, arith, append_assoc, length-append, Result, Ok, Err, OnOk, OnErr}
+use Rattle.tp_disk.proofs.Lower.{append-nil, drop-append-le, drop-length, Moment, MayBe, IsOutside, Call, Write, Sync, Read, written, done, within, broken, SameOutside, State, MomentPassed, Fails, IsSynced, SomeMay, MayHaveLeft, moment, LeavesOnly, all_done, moments_of, Called, Broke}
 use Rattle.tp_disk.specs.Laws.{IsMomentInside}
 use Rattle.tp_disk.proofs.Moments.{may_within, write_may, may_write, broken_may, synced_may}
 

@@ -1,3 +1,4 @@
+pub mod Lower
 pub mod Moments
 pub mod Calls
 pub mod Torn

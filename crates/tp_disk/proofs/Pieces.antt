@@ -1,11 +1,6 @@
 -- Files that get room for a device: one piece more is written, and what is before stays.
 use Rattle.std.proofs.Common.{◌≡◌, ℕ, ◌+◌, ◌-◌, ◌*◌, ◌≢◌, Bool, true, Result, Ok, Err, OnOk, OnErr, is_ok, List, [], ◌∷◌, ◌++◌, map, min, replicate, sym, ap, ◌∙◌, if◌then◌else◌, nat_eq, arith, append_assoc}
-use Rattle.std.proofs.lemmas.Bool.Decides.{nat_tests}
-use Rattle.std.proofs.lemmas.List.{append-nil}
-use Rattle.std.proofs.lemmas.List.FromFn.{map-range_with_len_more}
-use Rattle.std.specs.Int.{div_ceil}
-use Rattle.std.specs.List.{range_with_len}
-use Rattle.tp_law_machine.proofs.Partial.{all_append}
+use Rattle.tp_disk.proofs.Lower.{nat_tests, append-nil, map-range_with_len_more, div_ceil, range_with_len, all_append}
 use Rattle.tp_disk.specs.declared.filling.TheConstants.{PIECE}
 use Rattle.tp_disk.specs.History.{FileCall, Resizes, Syncs, SyncsData, Writes}
 use Rattle.tp_disk.specs.Filling.{CutBack, GoesOn, IsBehind, KeepsFront, clearing, filling, piece_at}

@@ -1,8 +1,6 @@
 -- A device in memory keeps the model, whatever its plan.
 use Rattle.std.proofs.Common.{◌≡◌, ℕ, ◌+◌, ◌≤◌, false, Result, Ok, Err, OnErr, is_ok, List, length, take, sym, ap, subst, arith}
-use Rattle.std.proofs.lemmas.List.{length-take}
-use Rattle.tp_model.specs.Disk.{Moment, MayBe, Call, Write, Sync, Read, written, within, broken}
-use Rattle.tp_model.specs.DiskHistory.{State, Fails}
+use Rattle.tp_disk.proofs.Lower.{length-take, Moment, MayBe, Call, Write, Sync, Read, written, within, broken, State, Fails}
 use Rattle.tp_disk.specs.declared.plan.Outcome.{Outcome}
 use Rattle.tp_disk.specs.declared.plan.Outcome.TheVariants.{Done, Refused, Torn}
 use Rattle.tp_disk.specs.Laws.{IsMomentInside}

@@ -1,7 +1,6 @@
 -- The calls of the system that give a file room for all bytes of a device, and how they leave what was in it.
 use Rattle.std.specs.Prelude.{◌≡◌, ◌⊎◌, ℕ, ◌+◌, ◌-◌, ◌*◌, ◌≤◌, Bool, true, if◌then◌else◌, min, nat_eq, nat_lt, List, [], ◌∷◌, ◌++◌, map, replicate}
-use Rattle.std.specs.Int.{div_ceil}
-use Rattle.std.specs.List.{AllByRecursion, range_with_len}
+use Rattle.tp_disk.specs.Lower.{div_ceil, AllByRecursion, range_with_len}
 use Rattle.tp_disk.specs.declared.filling.TheConstants.{PIECE}
 use Rattle.tp_disk.specs.History.{FileCall, Measures, Reads, Resizes, Syncs, SyncsData, Writes}
 

@@ -1,3 +1,4 @@
+pub mod Lower
 pub mod Failures
 pub mod History
 pub mod Plan

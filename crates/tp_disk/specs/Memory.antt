@@ -1,7 +1,6 @@
 -- A device in memory: what has happened to it, and what a call of it comes to.
 use Rattle.std.specs.Prelude.{◌≡◌, ℕ, ◌+◌, Bool}
-use Rattle.tp_model.specs.Disk.{Call}
-use Rattle.tp_model.specs.DiskHistory.{State, MomentPassed}
+use Rattle.tp_disk.specs.Lower.{Call, State, MomentPassed}
 use Rattle.tp_disk.specs.declared.counted.Counted.{Counted}
 use Rattle.tp_disk.specs.declared.memory.RawMemory.{RawMemory}
 use Rattle.tp_disk.specs.declared.plan.Outcome.{Outcome}

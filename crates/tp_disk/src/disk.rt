@@ -1,8 +1,7 @@
 //! What the store sees of a device.
 
 ghost use Rattle.std.specs.Prelude.{◌≡◌, ℕ, ◌+◌, ◌-◌, ◌^◌, ◌≤◌, min, length, take, drop, is_ok, OnOk, OnErr};
-ghost use Rattle.tp_model.specs.Disk.{Write, Sync, Read, done};
-ghost use Rattle.tp_model.specs.DiskHistory.{State, MomentPassed, Fails, Counts};
+ghost use Rattle.tp_disk.specs.Lower.{Write, Sync, Read, done, State, MomentPassed, Fails, Counts};
 
 use thiserror::Error;
 

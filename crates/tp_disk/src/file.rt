@@ -1,8 +1,7 @@
 //! A device in a file of the operating system.
 
 ghost use Rattle.std.specs.Prelude.{◌≡◌, ◌+◌, ◌≤◌, [], ◌∷◌, ◌++◌, length, take, drop, is_ok, IfOk, OnOk, OnErr};
-ghost use Rattle.tp_model.specs.Disk.{Write, Sync, Read, done};
-ghost use Rattle.tp_model.specs.DiskHistory.{Fails, MomentPassed, unknown};
+ghost use Rattle.tp_disk.specs.Lower.{Write, Sync, Read, done, Fails, MomentPassed, unknown};
 ghost use Rattle.tp_disk.specs.File.{file_keeps, no_file};
 ghost use Rattle.tp_disk.specs.History.{Measures, Reads, SyncsData, Writes};
 

@@ -1,8 +1,7 @@
 //! A device in memory. One of its calls may come to a bad end.
 
 ghost use Rattle.std.specs.Prelude.{◌≡◌, ℕ, ◌+◌, ◌≤◌, [], refl, ◌∷◌, ◌++◌, length, take, drop, replicate, is_ok, OnOk, IfOk};
-ghost use Rattle.tp_model.specs.Disk.{MayBe, Write, Sync, Read, written};
-ghost use Rattle.tp_model.specs.DiskHistory.{MomentPassed};
+ghost use Rattle.tp_disk.specs.Lower.{MayBe, Write, Sync, Read, written, MomentPassed};
 
 use crate::counted::Counted;
 use crate::disk::{DeviceFailed, Disk};

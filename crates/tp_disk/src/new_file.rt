@@ -1,8 +1,7 @@
 //! A file that becomes a device.
 
 ghost use Rattle.std.specs.Prelude.{◌≡◌, ◌+◌, ◌≤◌, [], ◌∷◌, ◌++◌, true, length, take, drop, is_ok, IfOk, OnOk, OnErr};
-ghost use Rattle.tp_model.specs.Disk.{Write, Sync, Read, done};
-ghost use Rattle.tp_model.specs.DiskHistory.{Fails, MomentPassed, unknown};
+ghost use Rattle.tp_disk.specs.Lower.{Write, Sync, Read, done, Fails, MomentPassed, unknown};
 ghost use Rattle.tp_disk.specs.File.{IsMeasured, NotMade, file_keeps, making, no_file, placing};
 ghost use Rattle.tp_disk.specs.Filling.{GoesOn};
 ghost use Rattle.tp_disk.specs.History.{Reads, SyncsData};

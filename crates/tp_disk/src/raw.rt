@@ -1,8 +1,7 @@
 //! A device below the count of its failures.
 
 ghost use Rattle.std.specs.Prelude.{◌≡◌, ℕ, ◌+◌, ◌≤◌, length, take, drop, OnOk, OnErr};
-ghost use Rattle.tp_model.specs.Disk.{Write, Sync, Read, done};
-ghost use Rattle.tp_model.specs.DiskHistory.{State, MomentPassed, Fails};
+ghost use Rattle.tp_disk.specs.Lower.{Write, Sync, Read, done, State, MomentPassed, Fails};
 
 use crate::disk::DeviceFailed;
 

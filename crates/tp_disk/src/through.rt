@@ -1,9 +1,7 @@
 //! Writing through to the device.
 
 ghost use Rattle.std.specs.Prelude.{◌+◌, ◌≤◌, [], ◌∷◌, length, is_ok, OnOk, OnErr};
-ghost use Rattle.tp_model.specs.Disk.{MayBe, Write, Sync, within};
-ghost use Rattle.tp_model.specs.DiskHistory.{Counts, LeavesOnly};
-ghost use Rattle.tp_model.specs.StoreCalls.{Called, Broke};
+ghost use Rattle.tp_disk.specs.Lower.{MayBe, Write, Sync, within, Counts, LeavesOnly, Called, Broke};
 
 use crate::disk::{DeviceFailed, Disk};
 

@@ -1,21 +1,6 @@
--- The book's entries compared with the flusher's journal, and where they lead.
+-- The book's entries compared with the flusher's journal, and the network to which they lead.
 use Rattle.std.proofs.Common.{◌≡◌, ℕ, ◌++◌, length, sym, ap, subst, ◌∙◌, Some}
-use Rattle.tp_model.specs.NodeState.{NodeState}
-use Rattle.tp_model.specs.Node.{t414, t414_ends}
-use Rattle.tp_model.specs.Network.{Network}
-use Rattle.tp_model.specs.Markers.{plain_network}
-use Rattle.tp_model.specs.Order.{after}
-use Rattle.tp_model.specs.DeviceAreas.{device_areas}
-use Rattle.tp_model.specs.Runs.{World}
-use Rattle.tp_law_machine.proofs.LinkLaws.{has_four_links, never_marks}
-use Rattle.tp_law_device.proofs.Holds.{areas_keep}
-use Rattle.tp_law_network.proofs.History.{journal_leads}
-use Rattle.tp_law_network.proofs.Stay.{mark_there}
-use Rattle.tp_book.specs.Book.{world_of}
-use Rattle.tp_shared.specs.declared.told.Told.{Told}
-use Rattle.tp_shared.specs.Seals.{Stage}
-use Rattle.tp_shared.specs.Told.{IsFirst, ToldSince, told_of}
-use Rattle.tp_shared.proofs.Telling.{told_journal}
+use Rattle.tp_flush.proofs.Lower.{NodeState, t414, t414_ends, Network, plain_network, after, device_areas, World, has_four_links, never_marks, areas_keep, journal_leads, mark_there, world_of, Told, Stage, IsFirst, ToldSince, told_of, told_journal}
 use Rattle.tp_flush.specs.Ahead.{IsAheadOf}
 use Rattle.tp_flush.specs.Known.{Reached}
 use Rattle.tp_flush.proofs.Kept.{reached_then}

@@ -1,17 +1,7 @@
 -- All slips since the opening compared with the flusher's journal.
-use Rattle.std.proofs.Common.{◌≡◌, ℕ, ◌+◌, ◌≤◌, List, [], ◌∷◌, ◌++◌, length, take, drop, refl, sym, ap, subst, ◌∙◌, arith, length-append, append-nil}
-use Rattle.std.proofs.Math.Seq.{drop-append_seam}
-use Rattle.tp_model.specs.declared.entry.Entry.{Entry}
-use Rattle.tp_model.specs.NodeState.{NodeState}
-use Rattle.tp_model.specs.Network.{Network}
-use Rattle.tp_model.specs.Snapshot.{MarkedNetwork}
-use Rattle.tp_model.specs.Runs.{World}
-use Rattle.tp_token.specs.Sound.{item_of, shown}
-use Rattle.tp_book.specs.Book.{next_in_book}
-use Rattle.tp_shared.specs.declared.told.Told.{Told}
-use Rattle.tp_shared.specs.Seals.{Stage, IsTied}
-use Rattle.tp_shared.specs.Told.{IsFirst, ToldSince, told_of}
-use Rattle.tp_shared.proofs.Telling.{told_journal}
+use Rattle.std.proofs.Common.{◌≡◌, ℕ, ◌+◌, ◌≤◌, List, [], ◌∷◌, ◌++◌, length, take, refl, sym, ap, subst, ◌∙◌, arith, length-append, append-nil}
+use Rattle.std.specs.Prelude.{drop}
+use Rattle.tp_flush.proofs.Lower.{drop-append_seam, Entry, NodeState, Network, MarkedNetwork, World, item_of, shown, next_in_book, Told, Stage, IsTied, IsFirst, ToldSince, told_of, told_journal}
 use Rattle.tp_flush.specs.All.{AreAll}
 use Rattle.tp_flush.specs.Known.{Reached}
 use Rattle.tp_flush.proofs.Ahead.{book_ahead}

@@ -1,23 +1,6 @@
 -- A flusher that begins over a device that was opened.
 use Rattle.std.proofs.Common.{◌≡◌, ℕ, ◌+◌, List, [], ◌∷◌, ◌++◌, length, refl, sym, ap, subst, ◌∙◌, Ok, Bool, false, arith}
-use Rattle.std.proofs.lemmas.List.{length-map}
-use Rattle.std.specs.Option.{option_map}
-use Rattle.std.specs.Result.{result_ok}
-use Rattle.tp_model.specs.declared.entry.Entry.{Entry}
-use Rattle.tp_model.specs.NodeState.{NodeState}
-use Rattle.tp_model.specs.Node.{t414}
-use Rattle.tp_model.specs.Network.{Network}
-use Rattle.tp_model.specs.Snapshot.{MarkedNetwork}
-use Rattle.tp_model.specs.Areas.{next_number}
-use Rattle.tp_model.specs.DiskHistory.{State}
-use Rattle.tp_model.specs.Opening.{Opened, held_of, next_of, verdict}
-use Rattle.tp_model.specs.WriteOrder.{Resting}
-use Rattle.tp_model.specs.DeviceAreas.{device_areas}
-use Rattle.tp_model.specs.Runs.{World, Reopens, CrashLeaves, reopened}
-use Rattle.tp_law_device.proofs.Verdicts.{verdict_leads}
-use Rattle.tp_law_network.proofs.Walks.{run_then}
-use Rattle.tp_area.specs.declared.place.Place.{Place}
-use Rattle.tp_ready.specs.Seen.{RaiserValue, unrisen}
+use Rattle.tp_flush.proofs.Lower.{length-map, option_map, result_ok, Entry, NodeState, t414, Network, MarkedNetwork, next_number, State, Opened, held_of, next_of, verdict, Resting, device_areas, World, Reopens, CrashLeaves, reopened, verdict_leads, run_then, Place, RaiserValue, unrisen}
 use Rattle.tp_flush.specs.Known.{Began, Reached}
 use Rattle.tp_flush.specs.Risen.{HaveRisen}
 use Rattle.tp_flush.specs.Flushing.{KeepsWorld, position}

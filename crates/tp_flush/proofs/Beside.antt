@@ -1,21 +1,8 @@
 -- What the calls of the store leave of the head and of the other area.
 use Rattle.std.proofs.Common.{◌≡◌, ◌⊎◌, inl, inr, ℕ, ◌+◌, ◌-◌, ◌<◌, ◌≤◌, List, [], ◌∷◌, length, sym, ap, subst, ◌∙◌, Bool, true, false, arith}
 use Rattle.std.specs.Prelude.{not}
-use Rattle.tp_model.specs.declared.areas.TwoAreas.{TwoAreas}
-use Rattle.tp_model.specs.Device.{area_start, areas_end, content_of}
-use Rattle.tp_model.specs.Topology.{Topology}
-use Rattle.tp_model.specs.Disk.{Moment, SameOutside, written}
-use Rattle.tp_model.specs.DiskHistory.{State}
-use Rattle.tp_model.specs.StoreCalls.{Called, put_calls}
-use Rattle.tp_area.specs.declared.place.Place.{Place}
-use Rattle.tp_area.specs.Other.{other_gate}
-use Rattle.tp_area.specs.Tails.{content_beside}
+use Rattle.tp_flush.proofs.Lower.{TwoAreas, area_start, areas_end, content_of, Topology, Moment, SameOutside, written, State, Called, put_calls, Place, other_gate, content_beside, content_same, front_from, head_same, written_same_outside, content_put}
 use Rattle.tp_flush.specs.Flushing.{HeadSays}
-use Rattle.tp_law_device.proofs.Contents.{content_same}
-use Rattle.tp_law_device.proofs.Fronts.{front_from}
-use Rattle.tp_law_device.proofs.Heads.{head_same}
-use Rattle.tp_law_network.proofs.Moments.{written_same_outside}
-use Rattle.tp_law_device.proofs.Places.{content_put}
 
 -- the head stays if only bytes after it are written
 pub head_kept : (at n : ℕ) (old new : List ℕ) (t : Topology) (areas : TwoAreas) → SameOutside at n old new → areas.first ≤ at → HeadSays t areas old → HeadSays t areas new

@@ -1,12 +1,6 @@
 -- What the flusher knows of the book's store.
 use Rattle.std.proofs.Common.{◌≡◌, Bool, false, List, sym, subst, ◌∙◌}
-use Rattle.std.proofs.lemmas.Bool.{true≢false}
-use Rattle.tp_model.specs.NodeState.{NodeState}
-use Rattle.tp_model.specs.Runs.{World}
-use Rattle.tp_model.specs.WriteOrder.{Position, Resting}
-use Rattle.tp_book.specs.Book.{BookValue}
-use Rattle.tp_shared.specs.Told.{IsFirst, ToldSince}
-use Rattle.tp_shared.specs.declared.told.Told.{Told}
+use Rattle.tp_flush.proofs.Lower.{true≢false, NodeState, World, Position, Resting, BookValue, IsFirst, ToldSince, Told}
 use Rattle.tp_flush.specs.Flushing.{position}
 use Rattle.tp_flush.specs.WasTold.{ToldWhere}
 use Rattle.tp_flush.proofs.Appends.{rests_unbroken}

@@ -1,38 +1,7 @@
--- The other area stays closed, whatever is appended to the open one or put behind its gate.
+-- The other area stays closed, whatever is appended to the open one or put after its gate.
 use Rattle.std.proofs.Common.{◌≡◌, ◌≢◌, ◌⊎◌, inl, inr, ℕ, zero, suc, ◌+◌, ◌-◌, ◌<◌, ◌≤◌, List, [], ◌∷◌, length, get_or, refl, sym, ap, subst, ◌∙◌, Bool, true, false, Option, Some, None, Result, Ok, Err, OnOk, arith, get_or-set_other}
 use Rattle.std.specs.Prelude.{not, if◌then◌else◌, replicate}
-use Rattle.std.proofs.lemmas.Bool.Decides.{eqb_tells}
-use Rattle.std.proofs.lemmas.Bool.{ltb-true, true≢false}
-use Rattle.tp_model.specs.declared.entry.Entry.{Entry}
-use Rattle.tp_model.specs.declared.areas.TwoAreas.{TwoAreas}
-use Rattle.tp_model.specs.declared.limits.TheConstants.{AREA_HEAD_BYTES, MAX_NODES}
-use Rattle.tp_model.specs.Bytes.{u8_at}
-use Rattle.tp_model.specs.NodeState.{NodeState}
-use Rattle.tp_model.specs.Snapshot.{MarkedNetwork}
-use Rattle.tp_model.specs.FrozenAs.{IsFrozenAs}
-use Rattle.tp_model.specs.Runs.{World}
-use Rattle.tp_model.specs.Areas.{gate_closed}
-use Rattle.tp_model.specs.Device.{area_start, areas_end, content_of, is_open}
-use Rattle.tp_model.specs.Disk.{Moment, SameOutside}
-use Rattle.tp_model.specs.DiskHistory.{State}
-use Rattle.tp_model.specs.StoreCalls.{Called, clear_calls, group_calls, put_calls}
-use Rattle.tp_model.specs.Group.{group_length}
-use Rattle.tp_model.specs.Journal.{image_length, is_roomy}
-use Rattle.tp_model.specs.Topology.{Topology}
-use Rattle.tp_area.specs.Pieces.{piece_place}
-use Rattle.tp_area.specs.declared.place.Place.{Place}
-use Rattle.tp_area.specs.declared.fault.StoreFault.{StoreFault}
-use Rattle.tp_area.specs.Appended.{Appended, body_of}
-use Rattle.tp_area.specs.Other.{OtherIsClosed, if_open, other_gate}
-use Rattle.tp_area.specs.Places.{behind_group, has_room_at}
-use Rattle.tp_area.specs.Tails.{content_beside}
-use Rattle.tp_area.proofs.Behind.{CanBeAppended, length-body}
-use Rattle.tp_area.proofs.Frames.{gate_same}
-use Rattle.tp_shared.specs.declared.told.Told.{Told}
-use Rattle.tp_shared.specs.Told.{IsFirst, ToldSince}
-use Rattle.tp_law_device.proofs.Contents.{length-content_of}
-use Rattle.tp_law_network.proofs.Moments.{written_same_outside}
-use Rattle.tp_shared.proofs.Gone.{frozen_since}
+use Rattle.tp_flush.proofs.Lower.{eqb_tells, ltb-true, true≢false, Entry, TwoAreas, AREA_HEAD_BYTES, MAX_NODES, u8_at, NodeState, MarkedNetwork, IsFrozenAs, World, gate_closed, area_start, areas_end, content_of, is_open, Moment, SameOutside, State, Called, clear_calls, group_calls, put_calls, group_length, image_length, is_roomy, Topology, piece_place, Place, StoreFault, Appended, body_of, OtherIsClosed, if_open, other_gate, behind_group, has_room_at, content_beside, CanBeAppended, length-body, gate_same, Told, IsFirst, ToldSince, length-content_of, written_same_outside, frozen_since}
 use Rattle.tp_flush.specs.declared.progress.Progress.{Progress}
 use Rattle.tp_flush.specs.Progress.{is_out, not_begun, with_out}
 use Rattle.tp_flush.specs.Copying.{IsPartOut}

@@ -1,38 +1,7 @@
 -- The kept cut stays spelt and the device's head stays, whatever is appended, put into the other area, or read in the book.
 use Rattle.std.proofs.Common.{◌≡◌, ℕ, ◌+◌, ◌≤◌, ◌<◌, List, [], ◌∷◌, length, refl, sym, ap, subst, ◌∙◌, Bool, true, false, Option, Some, None, Result, Ok, Err, OnOk, arith}
 use Rattle.std.specs.Prelude.{not, if◌then◌else◌}
-use Rattle.std.specs.List.{AllByRecursion}
-use Rattle.tp_model.specs.declared.entry.Entry.{Entry}
-use Rattle.tp_model.specs.declared.areas.TwoAreas.{TwoAreas}
-use Rattle.tp_model.specs.declared.limits.TheConstants.{AREA_HEAD_BYTES}
-use Rattle.tp_model.specs.Bytes.{u8_at}
-use Rattle.tp_model.specs.NodeState.{NodeState}
-use Rattle.tp_model.specs.Node.{t414, t414_ends}
-use Rattle.tp_model.specs.Network.{Network}
-use Rattle.tp_model.specs.Snapshot.{MarkedNetwork}
-use Rattle.tp_model.specs.Acts.{Act, acted, happens}
-use Rattle.tp_model.specs.Areas.{gate_closed}
-use Rattle.tp_model.specs.Runs.{World, is_trim}
-use Rattle.tp_model.specs.Device.{area_start, areas_end, is_open}
-use Rattle.tp_model.specs.Disk.{Moment, SameOutside}
-use Rattle.tp_model.specs.DiskHistory.{State}
-use Rattle.tp_model.specs.StoreCalls.{Called, clear_calls, put_calls}
-use Rattle.tp_model.specs.Opening.{Opened, verdict}
-use Rattle.tp_model.specs.Journal.{room}
-use Rattle.tp_model.specs.Topology.{Topology}
-use Rattle.tp_area.specs.declared.place.Place.{Place}
-use Rattle.tp_area.specs.declared.fault.StoreFault.{StoreFault}
-use Rattle.tp_area.specs.Appended.{Appended, body_of}
-use Rattle.tp_area.specs.Other.{if_open, other_gate}
-use Rattle.tp_area.specs.Places.{has_room_at}
-use Rattle.tp_area.proofs.Behind.{CanBeAppended}
-use Rattle.tp_shared.specs.declared.told.Told.{Told}
-use Rattle.tp_shared.specs.Told.{IsFirst, ToldSince}
-use Rattle.tp_law_network.proofs.Stays.{start_stays}
-use Rattle.tp_law_device.proofs.Opens.{reads_of}
-use Rattle.tp_law_network.proofs.Partial.{bind_some}
-use Rattle.tp_law_network.proofs.Moments.{written_same_outside}
-use Rattle.tp_law_device.specs.CutSpelt.{CutSpelt}
+use Rattle.tp_flush.proofs.Lower.{AllByRecursion, Entry, TwoAreas, AREA_HEAD_BYTES, u8_at, NodeState, t414, t414_ends, Network, MarkedNetwork, Act, acted, happens, gate_closed, World, is_trim, area_start, areas_end, is_open, Moment, SameOutside, State, Called, clear_calls, put_calls, Opened, verdict, room, Topology, Place, StoreFault, Appended, body_of, if_open, other_gate, has_room_at, CanBeAppended, Told, IsFirst, ToldSince, start_stays, reads_of, bind_some, written_same_outside, CutSpelt}
 use Rattle.tp_flush.specs.Flushing.{HeadSays, IsOfDevice}
 use Rattle.tp_flush.proofs.Appends.{Answered, after_group}
 use Rattle.tp_flush.proofs.Beside.{areas_fit, head_first, head_kept, put_same}

@@ -1,13 +1,7 @@
 -- How groups, and turns, ended.
-use Rattle.std.proofs.Common.{◌≡◌, ℕ, ◌+◌, List, length, inl, refl, sym, ap, subst, ◌∙◌, Bool, true, false, Option, Result, Ok, Err, IfOk, MatchResult, arith}
-use Rattle.std.specs.Prelude.{◌-◌, drop}
-use Rattle.tp_model.specs.declared.entry.Entry.{Entry}
-use Rattle.tp_model.specs.NodeState.{NodeState}
-use Rattle.tp_model.specs.Disk.{Moment}
-use Rattle.tp_model.specs.WriteOrder.{Position, Resting, Broken}
-use Rattle.tp_model.specs.Runs.{World}
-use Rattle.tp_area.specs.declared.place.Place.{Place}
-use Rattle.tp_area.specs.declared.fault.StoreFault.{StoreFault}
+use Rattle.std.proofs.Common.{◌≡◌, ℕ, ◌+◌, List, length, inl, refl, sym, ap, subst, ◌∙◌, Bool, true, false, Option, Result, Ok, Err, MatchResult, arith, ◌-◌}
+use Rattle.std.specs.Prelude.{IfOk, drop}
+use Rattle.tp_flush.proofs.Lower.{Entry, NodeState, Moment, Position, Resting, Broken, World, Place, StoreFault}
 use Rattle.tp_flush.specs.declared.fault.FlushFault.{FlushFault}
 use Rattle.tp_flush.specs.declared.fault.FlushFault.TheVariants.{AreaFull, DeviceFailed, Memory, StoreBroken}
 use Rattle.tp_flush.specs.Flushing.{Flushing, OnlyLooked, position}

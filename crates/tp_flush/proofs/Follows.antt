@@ -1,28 +1,6 @@
 -- Nothing that a device had is lost, if its flusher goes on from it.
 use Rattle.std.proofs.Common.{◌≡◌, ℕ, ◌+◌, ◌≤◌, ◌⊎◌, inl, inr, List, take, Some, Ok, sym, ap, subst, ◌∙◌, arith}
-use Rattle.std.specs.Option.{option_map}
-use Rattle.std.specs.Result.{result_ok}
-use Rattle.std.proofs.lemmas.List.{length-map}
-use Rattle.tp_model.specs.declared.entry.Entry.{Entry}
-use Rattle.tp_model.specs.NodeState.{NodeState}
-use Rattle.tp_model.specs.Node.{t414, t414_ends}
-use Rattle.tp_model.specs.Network.{Network}
-use Rattle.tp_model.specs.Order.{after}
-use Rattle.tp_model.specs.Areas.{Held, next_number}
-use Rattle.tp_model.specs.Disk.{MayBe}
-use Rattle.tp_model.specs.DiskHistory.{State, LeavesOnly}
-use Rattle.tp_model.specs.DeviceAreas.{device_areas}
-use Rattle.tp_model.specs.Opening.{Opened, held_of, next_of, verdict}
-use Rattle.tp_model.specs.Runs.{World, reopened}
-use Rattle.tp_model.specs.Walks.{RunLeads, RecoversTo}
-use Rattle.tp_law_machine.proofs.LinkLaws.{has_four_links, never_marks}
-use Rattle.tp_law_device.proofs.Holds.{areas_keep}
-use Rattle.tp_law_device.proofs.Verdicts.{verdict_leads}
-use Rattle.tp_law_network.proofs.Moments.{may_stand}
-use Rattle.tp_law_network.proofs.Runs.{run_recovers}
-use Rattle.tp_law_network.proofs.Walks.{chain_leads, no_step, recovers_at, walks_leave}
-use Rattle.tp_disk.proofs.Calls.{and_then, weaker}
-use Rattle.tp_recover.specs.Reading.{LeavesNothingNew}
+use Rattle.tp_flush.proofs.Lower.{option_map, result_ok, length-map, Entry, NodeState, t414, t414_ends, Network, after, Held, next_number, MayBe, State, LeavesOnly, device_areas, Opened, held_of, next_of, verdict, World, reopened, RunLeads, RecoversTo, has_four_links, never_marks, areas_keep, verdict_leads, may_stand, run_recovers, chain_leads, no_step, recovers_at, walks_leave, and_then, weaker, LeavesNothingNew}
 use Rattle.tp_flush.specs.Known.{Began, Reached}
 use Rattle.tp_flush.specs.Flushing.{Flushing, Walked}
 use Rattle.tp_flush.specs.Follows.{Follows}

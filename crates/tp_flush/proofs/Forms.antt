@@ -1,14 +1,6 @@
 -- What the open area may hold, compared with what is told of the book.
 use Rattle.std.proofs.Common.{◌≡◌, List, ap, subst, sym, ◌∙◌, true, ℕ, Bool, Option, Result, Ok, Err}
-use Rattle.std.proofs.ByRecursion.{All-weaker}
-use Rattle.tp_model.specs.declared.entry.Entry.{Entry}
-use Rattle.tp_model.specs.declared.form.Form.{Form}
-use Rattle.tp_model.specs.declared.form.Form.TheVariants.{Turns}
-use Rattle.tp_model.specs.EntryBytes.{AreOf, is_of}
-use Rattle.tp_area.specs.declared.place.Place.{Place}
-use Rattle.tp_area.specs.declared.fault.StoreFault.{StoreFault}
-use Rattle.tp_shared.specs.declared.told.Told.{Told}
-use Rattle.tp_shared.specs.Told.{ToldSince}
+use Rattle.tp_flush.proofs.Lower.{All-weaker, Entry, Form, Turns, AreOf, is_of, Place, StoreFault, Told, ToldSince}
 use Rattle.tp_flush.specs.Flushing.{HoldsAllOf}
 use Rattle.tp_flush.proofs.Appends.{Answered}
 

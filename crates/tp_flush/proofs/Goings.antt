@@ -1,15 +1,6 @@
 -- Parts of a turn, one after the other.
 use Rattle.std.proofs.Common.{◌≡◌, ℕ, ◌≤◌, ◌+◌, inr, sym, subst, refl, ◌∙◌, ap, Bool, true, false, Result, Ok, Err, arith}
-use Rattle.tp_model.specs.NodeState.{NodeState}
-use Rattle.tp_model.specs.FrozenAs.{IsFrozenAs}
-use Rattle.tp_model.specs.Network.{Network}
-use Rattle.tp_model.specs.Node.{t414}
-use Rattle.tp_model.specs.DiskHistory.{State}
-use Rattle.tp_model.specs.DeviceAreas.{device_areas}
-use Rattle.tp_model.specs.Walks.{Walks}
-use Rattle.tp_model.specs.WriteOrder.{Resting}
-use Rattle.tp_model.specs.Runs.{World}
-use Rattle.tp_area.specs.declared.place.Place.{Place}
+use Rattle.tp_flush.proofs.Lower.{NodeState, IsFrozenAs, Network, t414, State, device_areas, Walks, Resting, World, Place}
 use Rattle.tp_flush.specs.declared.fault.FlushFault.{FlushFault}
 use Rattle.tp_flush.specs.declared.fault.FlushFault.TheVariants.{AreaFull, DeviceFailed, Memory, StoreBroken}
 use Rattle.tp_flush.specs.declared.progress.Progress.{Progress}

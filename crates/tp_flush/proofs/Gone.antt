@@ -1,13 +1,6 @@
 -- Nodes whose images are out, and that have no kept pages.
 use Rattle.std.proofs.Common.{◌≡◌, inl, inr, ℕ, Bool, true, false, List, sym, subst, ◌∙◌, get_or-set_other}
-use Rattle.std.proofs.lemmas.Bool.{true≢false}
-use Rattle.std.proofs.lemmas.Bool.Decides.{eqb_tells}
-use Rattle.tp_model.specs.FrozenAs.{IsFrozenAs}
-use Rattle.tp_model.specs.NodeState.{NodeState}
-use Rattle.tp_model.specs.Runs.{World}
-use Rattle.tp_model.specs.Snapshot.{MarkedNetwork}
-use Rattle.tp_shared.specs.Told.{IsFirst, ToldSince}
-use Rattle.tp_shared.specs.declared.told.Told.{Told}
+use Rattle.tp_flush.proofs.Lower.{true≢false, eqb_tells, IsFrozenAs, NodeState, World, MarkedNetwork, IsFirst, ToldSince, Told}
 use Rattle.tp_flush.specs.Copying.{IsGone}
 use Rattle.tp_flush.specs.Flushing.{AreGone}
 use Rattle.tp_flush.specs.Progress.{not_begun, with_out}

@@ -1,9 +1,6 @@
 -- What a turn does with images.
 use Rattle.std.proofs.Common.{◌≡◌, ◌⊎◌, inl, inr, ℕ, ◌<◌, Bool, true, false, List, [], ◌∷◌, ◌++◌, length, get_or, Option, Some, refl, sym, ap, subst, ◌∙◌, arith, get_or-set_other}
-use Rattle.std.proofs.lemmas.Bool.{true≢false}
-use Rattle.std.proofs.lemmas.Bool.Decides.{eqb_tells}
-use Rattle.tp_model.specs.Topology.{Topology}
-use Rattle.tp_book.specs.Book.{BookValue}
+use Rattle.tp_flush.proofs.Lower.{true≢false, eqb_tells, Topology, BookValue}
 use Rattle.tp_flush.specs.declared.imaged.Image.{Image}
 use Rattle.tp_flush.specs.declared.imaged.Image.TheVariants.{WasOut, Unrecorded, Lacking, Copied}
 use Rattle.tp_flush.specs.declared.imaged.Images.{Images}

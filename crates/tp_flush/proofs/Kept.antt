@@ -1,30 +1,10 @@
 -- What the flusher keeps as it reads the book, and as it raises the mark.
-use Rattle.std.proofs.Common.{◌≡◌, ℕ, ◌+◌, ◌<◌, ◌≤◌, List, ◌++◌, length, refl, sym, ap, subst, ◌∙◌, Bool, arith, length-drop}
-use Rattle.std.specs.Prelude.{◌-◌, drop, max}
-use Rattle.std.specs.List.{AllByRecursion}
-use Rattle.tp_model.specs.declared.entry.Entry.{Entry}
-use Rattle.tp_model.specs.declared.limits.TheConstants.{NUMBER_LIMIT}
-use Rattle.tp_model.specs.EntryBytes.{IsSpelt}
-use Rattle.tp_model.specs.NodeState.{NodeState}
-use Rattle.tp_model.specs.Node.{t414}
-use Rattle.tp_model.specs.Network.{Network}
-use Rattle.tp_model.specs.Topology.{Topology}
-use Rattle.tp_model.specs.Snapshot.{MarkedNetwork}
-use Rattle.tp_model.specs.DiskHistory.{State, moment}
-use Rattle.tp_model.specs.WriteOrder.{Resting}
-use Rattle.tp_model.specs.DeviceAreas.{device_areas, numbered}
-use Rattle.tp_model.specs.Runs.{World}
-use Rattle.tp_model.specs.Walks.{RunLeads, Walks}
-use Rattle.tp_area.specs.declared.place.Place.{Place}
-use Rattle.tp_area.specs.Appended.{unnumbered}
-use Rattle.tp_area.proofs.Behind.{length-entries}
-use Rattle.tp_law_network.proofs.Walks.{run_then, still_walks}
-use Rattle.tp_ready.specs.Seen.{RaiserValue, risen}
+use Rattle.std.proofs.Common.{◌≡◌, ℕ, ◌+◌, ◌<◌, ◌≤◌, List, ◌++◌, length, refl, sym, ap, subst, ◌∙◌, Bool, arith, length-drop, ◌-◌}
+use Rattle.std.specs.Prelude.{drop, max}
+use Rattle.tp_flush.proofs.Lower.{AllByRecursion, Entry, NUMBER_LIMIT, IsSpelt, NodeState, t414, Network, Topology, MarkedNetwork, State, moment, Resting, device_areas, numbered, World, RunLeads, Walks, Place, unnumbered, length-entries, run_then, still_walks, RaiserValue, risen, Told, IsFirst, ToldSince}
 use Rattle.tp_flush.specs.declared.progress.Progress.{Progress}
 use Rattle.tp_flush.specs.Known.{Began, Known, Reached}
 use Rattle.tp_flush.specs.Flushing.{Flushing, IsBacklog, KeepsWorld, OnlyLooked, Walked}
-use Rattle.tp_shared.specs.declared.told.Told.{Told}
-use Rattle.tp_shared.specs.Told.{IsFirst, ToldSince}
 use Rattle.tp_flush.proofs.Rises.{rises_raise, rises_walk}
 use Rattle.tp_flush.proofs.Looks.{base_is, copied, entries_stay, learned, learns, looks, raised, raises}
 

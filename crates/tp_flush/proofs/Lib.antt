@@ -1,3 +1,4 @@
+pub mod Lower
 mod Looks
 pub mod Kept
 pub mod Made

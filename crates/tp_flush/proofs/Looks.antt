@@ -1,22 +1,7 @@
 -- What is done between two calls of the device is a piece of a run: acts of the book, copying the backlog, and raising the mark.
-use Rattle.std.proofs.Common.{◌≡◌, ◌≤◌, false, List, [], ◌∷◌, map, length, refl, sym, ap, subst, ◌∙◌, Some, arith, length-append}
-use Rattle.std.specs.Prelude.{◌-◌, drop, max}
-use Rattle.std.specs.List.{AllByRecursion}
-use Rattle.tp_model.specs.declared.entry.Entry.{Entry}
-use Rattle.tp_model.specs.NodeState.{NodeState}
-use Rattle.tp_model.specs.Node.{t414}
-use Rattle.tp_model.specs.Snapshot.{MarkedNetwork}
-use Rattle.tp_model.specs.Acts.{Act, Begin, Record, Journal, Close, Trim, acted, happens}
-use Rattle.tp_model.specs.WriteOrder.{Resting}
-use Rattle.tp_model.specs.DeviceAreas.{device_areas}
-use Rattle.tp_model.specs.Acknowledged.{is_reopening}
-use Rattle.tp_model.specs.Runs.{World, Event, Acts, Copies, Raises, Run, grown, is_trim}
-use Rattle.tp_model.specs.Walks.{RunLeads}
-use Rattle.tp_shared.specs.declared.told.Told.{Told}
-use Rattle.tp_shared.specs.Told.{IsFirst, ToldSince, grown_all}
-use Rattle.tp_law_network.proofs.Partial.{bind_some}
-use Rattle.tp_law_network.proofs.Stays.{entries_grow}
-use Rattle.tp_law_network.proofs.Walks.{one_step, leads_then}
+use Rattle.std.proofs.Common.{◌≡◌, ◌≤◌, false, List, [], ◌∷◌, map, length, refl, sym, ap, subst, ◌∙◌, Some, arith, length-append, ◌-◌}
+use Rattle.std.specs.Prelude.{drop, max}
+use Rattle.tp_flush.proofs.Lower.{AllByRecursion, Entry, NodeState, t414, MarkedNetwork, Act, Begin, Record, Journal, Close, Trim, acted, happens, Resting, device_areas, is_reopening, World, Event, Acts, Copies, Raises, Run, grown, is_trim, RunLeads, Told, IsFirst, ToldSince, grown_all, bind_some, entries_grow, one_step, leads_then}
 
 -- ## The book's acts
 

@@ -1,22 +1,6 @@
 -- What is made of a device that opened.
-use Rattle.std.proofs.Common.{◌≡◌, ℕ, List, length, Option, Some, ap, ◌∙◌, arith}
-use Rattle.std.specs.Prelude.{map}
-use Rattle.std.proofs.lemmas.List.{length-map}
-use Rattle.tp_model.specs.NodeState.{NodeState}
-use Rattle.tp_model.specs.Node.{t414, t414_ends}
-use Rattle.tp_model.specs.Network.{Network}
-use Rattle.tp_model.specs.Opening.{Opened, next_of}
-use Rattle.tp_model.specs.OpensTo.{book_of}
-use Rattle.tp_model.specs.Order.{after}
-use Rattle.tp_model.specs.Spelling.{IsCut}
-use Rattle.tp_law_machine.proofs.LinkLaws.{has_four_links}
-use Rattle.tp_law_network.proofs.Reorder.{after_shape}
-use Rattle.tp_model.specs.declared.entry.Entry.{Entry}
-use Rattle.tp_book.specs.declared.state.NetState.{NetState}
-use Rattle.tp_book.specs.Book.{BookValue, next_in_book, world_of}
-use Rattle.tp_book.specs.Opened.{kept_entries, now_of, opened_book}
-use Rattle.tp_ready.specs.Seen.{RaiserValue, unrisen}
-use Rattle.tp_shared.specs.Parted.{PartsValue}
+use Rattle.std.proofs.Common.{◌≡◌, ℕ, List, length, Option, Some, ap, ◌∙◌, arith, map}
+use Rattle.tp_flush.proofs.Lower.{length-map, NodeState, t414, t414_ends, Network, Opened, next_of, book_of, after, IsCut, has_four_links, after_shape, Entry, NetState, BookValue, next_in_book, world_of, kept_entries, now_of, opened_book, RaiserValue, unrisen, PartsValue}
 use Rattle.tp_flush.specs.Made.{IsMadeOf}
 
 pub kept_is : (s : NetState) (o : Opened) → s.kept.items ≡ o.kept → kept_entries s ≡ map (λ e. e.0) o.kept

@@ -1,39 +1,7 @@
 -- What is written into the other area while the flusher rests is a piece of a run, whether it was done or a call of the device failed.
 use Rattle.std.proofs.Common.{◌≡◌, ℕ, zero, suc, ◌+◌, ◌-◌, ◌*◌, ◌<◌, ◌≤◌, refl, sym, ap, subst, ◌∙◌, Bool, true, false, Option, None, Result, Ok, Err, OnOk, OnErr, MatchResult, List, [], ◌∷◌, length, take, get_or, arith}
 use Rattle.std.specs.Prelude.{if◌then◌else◌, sum_by, nat_le, IfOk}
-use Rattle.std.specs.List.{list_all}
-use Rattle.std.proofs.Math.Dec.{eqb-suc-zero}
-use Rattle.std.proofs.lemmas.Bool.{and_parts, leb-true}
-use Rattle.tp_law_device.proofs.Wires.{has_shape}
-use Rattle.std.proofs.lemmas.List.Sums.{sum_by-cons}
-use Rattle.std.specs.Option.{option_map}
-use Rattle.std.specs.Result.{result_ok}
-use Rattle.tp_model.specs.declared.limits.TheConstants.{IMAGE_HEAD_BYTES, MAX_PAGES, MIN_PAGES, PAGE_BYTES}
-use Rattle.tp_model.specs.NodeState.{NodeState}
-use Rattle.tp_model.specs.Node.{t414, t414_ends}
-use Rattle.tp_model.specs.Network.{Network}
-use Rattle.tp_model.specs.Disk.{Moment, Call, IsWithin}
-use Rattle.tp_model.specs.DiskHistory.{State}
-use Rattle.tp_model.specs.StoreCalls.{Broke, Called, clear_calls, put_calls}
-use Rattle.tp_model.specs.FrozenAs.{IsFrozenAs}
-use Rattle.tp_model.specs.WriteOrder.{Resting}
-use Rattle.tp_model.specs.Opening.{Opened, held_of, verdict}
-use Rattle.tp_model.specs.DeviceAreas.{device_areas}
-use Rattle.tp_model.specs.Runs.{World}
-use Rattle.tp_model.specs.Walks.{AreWalked, Walks}
-use Rattle.tp_area.specs.declared.place.Place.{Place}
-use Rattle.tp_area.specs.declared.fault.StoreFault.{StoreFault}
-use Rattle.tp_area.specs.declared.fault.StoreFault.TheVariants.{DeviceFailed as StoreFailed}
-use Rattle.tp_area.specs.Other.{if_open, other_gate}
-use Rattle.tp_area.specs.Pieces.{piece_length, piece_place, place_in_image}
-use Rattle.tp_model.specs.Topology.{Topology, is_page_count, is_topology}
-use Rattle.tp_model.specs.Journal.{image_length, is_roomy}
-use Rattle.tp_shared.specs.declared.told.Told.{Told}
-use Rattle.tp_shared.specs.Told.{IsFirst}
-use Rattle.tp_law_device.proofs.Holds.{areas_keep}
-use Rattle.tp_law_network.proofs.Planned.{clear_walks, pieces_walk}
-use Rattle.tp_law_network.proofs.Walks.{chain_leads}
-use Rattle.tp_ready.specs.Seen.{RaiserValue}
+use Rattle.tp_flush.proofs.Lower.{list_all, eqb-suc-zero, and_parts, leb-true, has_shape, sum_by-cons, option_map, result_ok, IMAGE_HEAD_BYTES, MAX_PAGES, MIN_PAGES, PAGE_BYTES, NodeState, t414, t414_ends, Network, Moment, Call, IsWithin, State, Broke, Called, clear_calls, put_calls, IsFrozenAs, Resting, Opened, held_of, verdict, device_areas, World, AreWalked, Walks, Place, StoreFault, StoreFailed, if_open, other_gate, piece_length, piece_place, place_in_image, Topology, is_page_count, is_topology, image_length, is_roomy, Told, IsFirst, areas_keep, clear_walks, pieces_walk, chain_leads, RaiserValue}
 use Rattle.tp_flush.specs.declared.fault.FlushFault.{FlushFault}
 use Rattle.tp_flush.specs.declared.fault.FlushFault.TheVariants.{DeviceFailed}
 use Rattle.tp_flush.specs.Known.{Known, Began}

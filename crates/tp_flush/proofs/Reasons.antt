@@ -1,14 +1,7 @@
 -- Why the store didn't switch.
 use Rattle.std.proofs.Common.{◌≡◌, ◌∙◌, ℕ, Bool, true, false, List, Option, Some, None, refl, sym, subst}
 use Rattle.std.specs.Prelude.{◌&&◌, if◌then◌else◌, is_some}
-use Rattle.std.specs.Borrow.{Bor}
-use Rattle.std.specs.Option.{option_copied}
-use Rattle.tp_model.specs.NodeState.{NodeState}
-use Rattle.tp_model.specs.Snapshot.{MarkedNetwork}
-use Rattle.tp_model.specs.Topology.{Topology}
-use Rattle.tp_model.specs.WholeCut.{whole}
-use Rattle.tp_area.specs.declared.place.Place.{Place}
-use Rattle.tp_shared.specs.Frozen.{none_kept}
+use Rattle.tp_flush.proofs.Lower.{Bor, option_copied, NodeState, MarkedNetwork, Topology, whole, Place, none_kept}
 use Rattle.tp_flush.specs.declared.imaged.Images.{Images}
 use Rattle.tp_flush.specs.declared.progress.Progress.{Progress}
 use Rattle.tp_flush.specs.declared.unswitched.Unswitched.{Unswitched}

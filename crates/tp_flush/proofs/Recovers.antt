@@ -1,11 +1,6 @@
 -- What recovers to a prefix of a journal.
 use Rattle.std.proofs.Common.{ℕ, ◌≤◌, List, arith}
-use Rattle.tp_model.specs.declared.entry.Entry.{Entry}
-use Rattle.tp_model.specs.NodeState.{NodeState}
-use Rattle.tp_model.specs.Node.{t414}
-use Rattle.tp_model.specs.Network.{Network}
-use Rattle.tp_model.specs.DeviceAreas.{device_areas}
-use Rattle.tp_model.specs.Walks.{RecoversTo}
+use Rattle.tp_flush.proofs.Lower.{Entry, NodeState, t414, Network, device_areas, RecoversTo}
 
 -- what recovers to one with all below a mark has all below a lesser number
 pub recovers_less : (start : Network NodeState) (journal : List Entry) (mark next : ℕ) (left : List ℕ) → next ≤ mark → RecoversTo t414 device_areas start journal mark left

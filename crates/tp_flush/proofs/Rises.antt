@@ -1,27 +1,7 @@
 -- What the device had when the mark was raised stays, as the flusher goes on.
 use Rattle.std.proofs.Common.{◌≡◌, ℕ, ◌≤◌, ◌⊎◌, inl, inr, List, [], ◌∷◌, ◌++◌, sym, ap, subst, ◌∙◌, arith, le_refl, length-append}
 use Rattle.std.specs.Prelude.{drop}
-use Rattle.std.specs.List.{AllByRecursion}
-use Rattle.std.proofs.lemmas.List.{take-append-le}
-use Rattle.std.proofs.Math.Seq.{drop-length}
-use Rattle.tp_model.specs.declared.entry.Entry.{Entry}
-use Rattle.tp_model.specs.NodeState.{NodeState}
-use Rattle.tp_model.specs.Node.{t414, t414_ends}
-use Rattle.tp_model.specs.Network.{Network}
-use Rattle.tp_model.specs.Order.{after}
-use Rattle.tp_model.specs.Areas.{next_number}
-use Rattle.tp_model.specs.Disk.{MayBe}
-use Rattle.tp_model.specs.DiskHistory.{State, LeavesOnly, MayHaveLeft, SomeMay, moment}
-use Rattle.tp_model.specs.DeviceAreas.{device_areas}
-use Rattle.tp_model.specs.Runs.{World}
-use Rattle.tp_model.specs.Walks.{RecoversTo, RunLeads, Walks}
-use Rattle.tp_law_machine.proofs.LinkLaws.{has_four_links, never_marks}
-use Rattle.tp_law_device.proofs.Holds.{areas_keep}
-use Rattle.tp_law_network.proofs.Acknowledged.{run_goes_on}
-use Rattle.tp_law_network.proofs.Stay.{stays}
-use Rattle.tp_law_network.proofs.Walks.{chain_leads, no_step, recovers_at, walks_recover}
-use Rattle.tp_ready.specs.declared.mark_view.Rise.{Rise}
-use Rattle.tp_ready.specs.Seen.{RisesOn}
+use Rattle.tp_flush.proofs.Lower.{AllByRecursion, take-append-le, drop-length, Entry, NodeState, t414, t414_ends, Network, after, next_number, MayBe, State, LeavesOnly, MayHaveLeft, SomeMay, moment, device_areas, World, RecoversTo, RunLeads, Walks, has_four_links, never_marks, areas_keep, run_goes_on, stays, chain_leads, no_step, recovers_at, walks_recover, Rise, RisesOn}
 use Rattle.tp_flush.specs.Known.{Reached}
 use Rattle.tp_flush.specs.Risen.{HaveRisen, WasStored}
 use Rattle.tp_flush.proofs.Recovers.{recovers_less}

@@ -1,28 +1,6 @@
 -- Slips compared with the flusher's journal.
 use Rattle.std.proofs.Common.{◌≡◌, ℕ, zero, suc, ◌+◌, ◌<◌, ◌≤◌, List, [], ◌∷◌, ◌++◌, length, take, refl, sym, ap, subst, ◌∙◌, arith, Some, slice_get, length-append}
-use mathlib.Core.List.{cons≢nil}
-use Rattle.tp_model.specs.declared.entry.Entry.{Entry}
-use Rattle.tp_model.specs.NodeState.{NodeState}
-use Rattle.tp_model.specs.Node.{t414, t414_ends}
-use Rattle.tp_model.specs.Network.{Machine, Network}
-use Rattle.tp_model.specs.Snapshot.{MarkedNetwork}
-use Rattle.tp_model.specs.Order.{Reorder, same, swap}
-use Rattle.tp_model.specs.Areas.{next_number}
-use Rattle.tp_model.specs.Disk.{MayBe}
-use Rattle.tp_model.specs.DeviceAreas.{device_areas}
-use Rattle.tp_model.specs.Runs.{World}
-use Rattle.tp_model.specs.Walks.{RecoversTo}
-use Rattle.tp_law_machine.proofs.LinkLaws.{has_four_links, never_marks}
-use Rattle.tp_law_device.proofs.Holds.{areas_keep}
-use Rattle.tp_law_network.proofs.Invariant.{Inv}
-use Rattle.tp_law_network.proofs.Runs.{formatted_holds, run_keeps}
-use Rattle.tp_law_network.proofs.Walks.{no_step, recovers_at}
-use Rattle.tp_token.specs.Sound.{Sound, item_of}
-use Rattle.tp_shared.specs.declared.told.Told.{Told}
-use Rattle.tp_shared.specs.Below.{AreBelow}
-use Rattle.tp_shared.specs.Seals.{Stage, IsTied}
-use Rattle.tp_shared.specs.Told.{IsFirst, ToldSince, told_of}
-use Rattle.tp_shared.proofs.Telling.{told_journal}
+use Rattle.tp_flush.proofs.Lower.{cons≢nil, Entry, NodeState, t414, t414_ends, Machine, Network, MarkedNetwork, Reorder, same, swap, next_number, MayBe, device_areas, World, RecoversTo, has_four_links, never_marks, areas_keep, Inv, formatted_holds, run_keeps, no_step, recovers_at, Sound, item_of, Told, AreBelow, Stage, IsTied, IsFirst, ToldSince, told_of, told_journal}
 use Rattle.tp_flush.specs.Known.{Reached}
 use Rattle.tp_flush.specs.Settled.{AreIn, RecoversWith, SlipsStand}
 use Rattle.tp_flush.proofs.Rises.{all_front}

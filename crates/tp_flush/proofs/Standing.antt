@@ -1,27 +1,7 @@
 -- Pieces of frozen images stay where they were put, also once others are put beside them.
-use Rattle.std.proofs.Common.{◌≡◌, ◌≢◌, ◌⊎◌, inl, inr, ℕ, zero, suc, ◌+◌, ◌*◌, ◌<◌, ◌≤◌, List, [], ◌∷◌, length, take, drop, get_or, slice_get, Some, sym, ap, subst, ◌∙◌, arith, length-take}
-use Rattle.std.specs.Prelude.{flat_map, sum_by}
-use Rattle.std.proofs.lemmas.Bool.{cases_lt}
-use Rattle.std.proofs.lemmas.List.Sums.{sum_by-cons}
-use Rattle.tp_model.specs.declared.limits.TheConstants.{IMAGE_HEAD_BYTES, PAGE_BYTES}
-use Rattle.tp_model.specs.NodeState.{NodeState}
-use Rattle.tp_model.specs.Image.{IsNode, image, image_head, page_count}
-use Rattle.tp_model.specs.Snapshot.{MarkedNetwork}
-use Rattle.tp_model.specs.WholeCut.{WholeCut}
-use Rattle.tp_model.specs.Runs.{HasCut}
-use Rattle.tp_model.specs.FrozenAs.{IsFrozenAs}
-use Rattle.tp_model.specs.PiecesStand.{IsThere}
-use Rattle.tp_model.specs.Disk.{written}
-use Rattle.tp_model.specs.Journal.{image_length}
-use Rattle.tp_model.specs.Opening.{nodes_place}
-use Rattle.tp_model.specs.Topology.{Topology}
-use Rattle.tp_area.specs.Pieces.{piece_length, piece_place, place_in_image}
-use Rattle.tp_law_machine.proofs.Moments.{length-written}
-use Rattle.tp_law_device.proofs.Frozen.{cut_frozen, image_in_pieces}
-use Rattle.tp_law_device.proofs.Pieces.{there_kept, there_written}
-use Rattle.tp_area.proofs.PutLaws.{written_nothing, written_twice}
-use Rattle.tp_shared.specs.Pieces.{AreFrozenPages, IsFrozenHead, IsFrozenPage}
-use Rattle.tp_area.specs.Tails.{content_beside}
+use Rattle.std.proofs.Common.{◌≡◌, ◌≢◌, ◌⊎◌, inl, inr, ℕ, zero, suc, ◌+◌, ◌*◌, ◌<◌, ◌≤◌, List, [], ◌∷◌, length, take, get_or, slice_get, Some, sym, ap, subst, ◌∙◌, arith, length-take}
+use Rattle.std.specs.Prelude.{drop, flat_map, sum_by}
+use Rattle.tp_flush.proofs.Lower.{cases_lt, sum_by-cons, IMAGE_HEAD_BYTES, PAGE_BYTES, NodeState, IsNode, image, image_head, page_count, MarkedNetwork, WholeCut, HasCut, IsFrozenAs, IsThere, written, image_length, nodes_place, Topology, piece_length, piece_place, place_in_image, length-written, cut_frozen, image_in_pieces, there_kept, there_written, written_nothing, written_twice, AreFrozenPages, IsFrozenHead, IsFrozenPage, content_beside}
 use Rattle.tp_flush.specs.Flushing.{Flushing}
 use Rattle.tp_flush.specs.Ends.{NothingStored}
 use Rattle.tp_flush.specs.Copying.{IsPartOut}

@@ -1,15 +1,6 @@
 -- Pieces of runs, one after the other, and what a crash leaves on the way.
 use Rattle.std.proofs.Common.{◌≡◌, ◌≤◌, take}
-use Rattle.tp_model.specs.NodeState.{NodeState}
-use Rattle.tp_model.specs.Node.{t414, t414_ends}
-use Rattle.tp_model.specs.Network.{Network}
-use Rattle.tp_model.specs.DiskHistory.{LeavesOnly}
-use Rattle.tp_model.specs.DeviceAreas.{device_areas}
-use Rattle.tp_model.specs.Walks.{RecoversTo}
-use Rattle.tp_law_machine.proofs.LinkLaws.{has_four_links, never_marks}
-use Rattle.tp_law_device.proofs.Holds.{areas_keep}
-use Rattle.tp_law_network.proofs.Stay.{stays}
-use Rattle.tp_law_network.proofs.Walks.{chain_leads, no_step, still_walks, walks_recover, walks_then}
+use Rattle.tp_flush.proofs.Lower.{NodeState, t414, t414_ends, Network, LeavesOnly, device_areas, RecoversTo, has_four_links, never_marks, areas_keep, stays, chain_leads, no_step, still_walks, walks_recover, walks_then}
 use Rattle.tp_flush.specs.Known.{Reached}
 use Rattle.tp_flush.specs.Flushing.{Flushing, Walked}
 

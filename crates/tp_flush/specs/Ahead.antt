@@ -1,13 +1,6 @@
 -- The book and the journal that the flusher knows.
 use Rattle.std.specs.Prelude.{◌≡◌, ◌≤◌, List, ◌++◌, length, Some}
-use Rattle.tp_model.specs.declared.entry.Entry.{Entry}
-use Rattle.tp_model.specs.NodeState.{NodeState}
-use Rattle.tp_model.specs.Node.{t414}
-use Rattle.tp_model.specs.Network.{Network}
-use Rattle.tp_model.specs.Markers.{plain_network}
-use Rattle.tp_model.specs.Order.{after}
-use Rattle.tp_model.specs.Runs.{World}
-use Rattle.tp_book.specs.Book.{BookValue, next_in_book, world_of}
+use Rattle.tp_flush.specs.Lower.{Entry, NodeState, t414, Network, plain_network, after, World, BookValue, next_in_book, world_of}
 
 -- The book has the journal of a world and some entries after it. Together they are all entries below its next number. They lead from the
 -- start to the network that it has, without Markers. The mark is at most what the journal has.

@@ -1,7 +1,6 @@
 -- All that was journalled since the opening, in somebody's hand.
 use Rattle.std.specs.Prelude.{◌≡◌, ℕ, List, length, drop}
-use Rattle.tp_model.specs.declared.entry.Entry.{Entry}
-use Rattle.tp_token.specs.Sound.{shown, item_of}
+use Rattle.tp_flush.specs.Lower.{Entry, shown, item_of}
 
 -- The journal has `next` entries. For each number from `first` on that it has, there is one slip, which shows the journal's entry. No slip
 -- has another number.

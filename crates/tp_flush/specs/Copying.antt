@@ -1,14 +1,6 @@
 -- What the other area has of a snapshot's frozen images.
 use Rattle.std.specs.Prelude.{◌≡◌, ◌<◌, ℕ, suc, ◌*◌, Bool, false, List, length, take, drop}
-use Rattle.tp_model.specs.declared.limits.TheConstants.{IMAGE_HEAD_BYTES, PAGE_BYTES}
-use Rattle.tp_model.specs.NodeState.{NodeState}
-use Rattle.tp_model.specs.Image.{image_head}
-use Rattle.tp_model.specs.Snapshot.{MarkedNetwork}
-use Rattle.tp_model.specs.FrozenAs.{IsFrozenAs}
-use Rattle.tp_model.specs.PiecesStand.{IsThere}
-use Rattle.tp_model.specs.Topology.{Topology}
-use Rattle.tp_area.specs.Pieces.{piece_place}
-use Rattle.tp_shared.specs.Frozen.{keeps_pages}
+use Rattle.tp_flush.specs.Lower.{IMAGE_HEAD_BYTES, PAGE_BYTES, NodeState, image_head, MarkedNetwork, IsFrozenAs, IsThere, Topology, piece_place, keeps_pages}
 
 -- In a content, the head and the first `count` pages of node i's frozen image are at their places.
 pub record IsPartOut (t : Topology) (net : MarkedNetwork NodeState) (content : List ℕ) (i count : ℕ) : Type 0 where

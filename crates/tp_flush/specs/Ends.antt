@@ -1,8 +1,6 @@
 -- How a turn of the flusher ended.
 use Rattle.std.specs.Prelude.{◌≡◌, ◌≤◌, ◌⊎◌, ℕ, ◌+◌, Bool, true, false, if◌then◌else◌, drop, Result, Ok, Err}
-use Rattle.tp_model.specs.NodeState.{NodeState}
-use Rattle.tp_model.specs.FrozenAs.{IsFrozenAs}
-use Rattle.tp_model.specs.WriteOrder.{Resting, Broken}
+use Rattle.tp_flush.specs.Lower.{NodeState, IsFrozenAs, Resting, Broken}
 use Rattle.tp_flush.specs.declared.fault.FlushFault.{FlushFault}
 use Rattle.tp_flush.specs.declared.fault.FlushFault.TheVariants.{AreaFull, DeviceFailed, Memory, StoreBroken}
 use Rattle.tp_flush.specs.declared.checkpoint.Checkpoint.{Checkpoint}

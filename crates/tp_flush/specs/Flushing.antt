@@ -1,30 +1,6 @@
 -- What contracts see of the flusher, what it keeps, and what it did.
 use Rattle.std.specs.Prelude.{◌≡◌, ◌<◌, ◌≤◌, ℕ, ◌+◌, Bool, true, false, if◌then◌else◌, List, length, get_or, Option, Some, Ok}
-use Rattle.std.specs.List.{AllByRecursion}
-use Rattle.tp_model.specs.declared.areas.TwoAreas.{TwoAreas}
-use Rattle.tp_model.specs.declared.entry.Entry.{Entry}
-use Rattle.tp_model.specs.declared.form.Form.{Form}
-use Rattle.tp_model.specs.declared.head.HeadVersion.{HeadVersion}
-use Rattle.tp_model.specs.declared.limits.TheConstants.{NUMBER_LIMIT}
-use Rattle.tp_model.specs.EntryBytes.{IsSpelt, is_of}
-use Rattle.tp_model.specs.NodeState.{NodeState}
-use Rattle.tp_model.specs.Node.{t414}
-use Rattle.tp_model.specs.Network.{Network}
-use Rattle.tp_model.specs.Topology.{Topology}
-use Rattle.tp_model.specs.Journal.{is_roomy, room}
-use Rattle.tp_model.specs.Head.{head_of}
-use Rattle.tp_model.specs.DiskHistory.{State}
-use Rattle.tp_model.specs.WriteOrder.{Position, Resting, Broken}
-use Rattle.tp_model.specs.DeviceAreas.{device_areas, numbered}
-use Rattle.tp_model.specs.Runs.{World}
-use Rattle.tp_model.specs.Walks.{RunLeads, Walks}
-use Rattle.tp_ready.specs.Seen.{RaiserValue}
-use Rattle.tp_area.specs.declared.place.Place.{Place}
-use Rattle.tp_area.specs.Appended.{unnumbered}
-use Rattle.tp_area.specs.Other.{OtherIsClosed}
-use Rattle.tp_area.specs.Tails.{content_beside}
-use Rattle.tp_model.specs.Snapshot.{MarkedNetwork}
-use Rattle.tp_law_device.specs.CutSpelt.{CutSpelt}
+use Rattle.tp_flush.specs.Lower.{AllByRecursion, TwoAreas, Entry, Form, HeadVersion, NUMBER_LIMIT, IsSpelt, is_of, NodeState, t414, Network, Topology, is_roomy, room, head_of, State, Position, Resting, Broken, device_areas, numbered, World, RunLeads, Walks, RaiserValue, Place, unnumbered, OtherIsClosed, content_beside, MarkedNetwork, CutSpelt}
 use Rattle.tp_flush.specs.Copying.{IsGone, IsPartOut}
 use Rattle.tp_flush.specs.Progress.{is_out}
 use Rattle.tp_flush.specs.declared.progress.Progress.{Progress}

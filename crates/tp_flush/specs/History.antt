@@ -1,9 +1,6 @@
 -- What a process goes on from.
 use Rattle.std.specs.Prelude.{[]}
-use Rattle.tp_model.specs.NodeState.{NodeState}
-use Rattle.tp_model.specs.Network.{Network}
-use Rattle.tp_model.specs.Runs.{World, fresh}
-use Rattle.tp_model.specs.WriteOrder.{Resting}
+use Rattle.tp_flush.specs.Lower.{NodeState, Network, World, fresh, Resting}
 
 -- the network of the images with which the device was formatted, and the world before it was opened
 pub record History : Type 0 where

@@ -1,8 +1,6 @@
 -- What a turn does with the frozen images of the snapshot that runs.
 use Rattle.std.specs.Prelude.{◌≡◌, ◌<◌, ℕ, Bool, true, false, List, [], ◌∷◌, ◌++◌, length, get_or, Option, Some, None}
-use Rattle.tp_book.specs.Needs.{has_recorded_in}
-use Rattle.tp_book.specs.Book.{BookValue}
-use Rattle.tp_shared.specs.declared.look.Look.{Look}
+use Rattle.tp_flush.specs.Lower.{has_recorded_in, BookValue, Look}
 use Rattle.tp_flush.specs.declared.imaged.Image.{Image}
 use Rattle.tp_flush.specs.declared.imaged.Image.TheVariants.{WasOut, Unrecorded, Lacking, Copied}
 use Rattle.tp_flush.specs.declared.imaged.Images.{Images}

@@ -1,11 +1,6 @@
 -- What the flusher knows, and how a world is reached.
 use Rattle.std.specs.Prelude.{ℕ, List}
-use Rattle.tp_model.specs.NodeState.{NodeState}
-use Rattle.tp_model.specs.Node.{t414}
-use Rattle.tp_model.specs.Network.{Network}
-use Rattle.tp_model.specs.Disk.{MayBe}
-use Rattle.tp_model.specs.DeviceAreas.{device_areas}
-use Rattle.tp_model.specs.Runs.{World, Event, Run, BeginsFormatted}
+use Rattle.tp_flush.specs.Lower.{NodeState, t414, Network, MayBe, device_areas, World, Event, Run, BeginsFormatted}
 
 -- the world as the flusher knows it, and the bytes that this process opened
 pub record Known : Type 0 where

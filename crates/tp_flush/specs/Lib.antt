@@ -1,3 +1,4 @@
+pub mod Lower
 pub mod Progress
 pub mod Copying
 pub mod CopiedIn

@@ -1,10 +1,6 @@
 -- What is made of a device that opened, before its flusher begins.
 use Rattle.std.specs.Prelude.{◌≡◌, false, length}
-use Rattle.tp_ready.specs.Seen.{RaiserValue, unrisen}
-use Rattle.tp_model.specs.Opening.{Opened, next_of}
-use Rattle.tp_model.specs.OpensTo.{book_of}
-use Rattle.tp_book.specs.Book.{world_of}
-use Rattle.tp_shared.specs.Parted.{PartsValue}
+use Rattle.tp_flush.specs.Lower.{RaiserValue, unrisen, Opened, next_of, book_of, world_of, PartsValue}
 
 -- Parts whose book is that of what was opened, and isn't broken, and the raiser of their mark, which has the next number.
 pub record IsMadeOf (o : Opened) (parts : PartsValue) (raiser : RaiserValue) : Type 0 where

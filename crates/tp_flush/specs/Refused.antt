@@ -1,12 +1,6 @@
 -- Why a snapshot doesn't begin.
 use Rattle.std.specs.Prelude.{◌≡◌, List, [], ◌∷◌, length, Result, IfOk, OnErr}
-use Rattle.tp_model.specs.NodeState.{NodeState}
-use Rattle.tp_model.specs.Network.{Network}
-use Rattle.tp_book.specs.Book.{BookValue}
-use Rattle.tp_book.specs.Marked.{after_begin, begin_refusal}
-use Rattle.tp_book.specs.Refusals.{IsAnswer}
-use Rattle.tp_book.specs.declared.refusal.Refusal.{Refusal}
-use Rattle.tp_book.specs.declared.refusal.Refusal.TheVariants.{JournalFull, StoreBroken, Memory, NothingToTake, SnapshotRunning, PortFull}
+use Rattle.tp_flush.specs.Lower.{NodeState, Network, BookValue, after_begin, begin_refusal, IsAnswer, Refusal, JournalFull, StoreBroken, Memory, NothingToTake, SnapshotRunning, PortFull}
 
 -- a reason of the book's, for the snapshot
 abbrev pub IsBeginRefusal : Refusal → Type 0

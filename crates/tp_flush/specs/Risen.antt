@@ -1,15 +1,6 @@
 -- What the device had when the mark was raised, and has since.
 use Rattle.std.specs.Prelude.{◌≤◌, ℕ, List, drop}
-use Rattle.std.specs.List.{AllByRecursion}
-use Rattle.tp_model.specs.declared.entry.Entry.{Entry}
-use Rattle.tp_model.specs.NodeState.{NodeState}
-use Rattle.tp_model.specs.Node.{t414}
-use Rattle.tp_model.specs.Network.{Network}
-use Rattle.tp_model.specs.DiskHistory.{State, MayHaveLeft, moment}
-use Rattle.tp_model.specs.DeviceAreas.{device_areas}
-use Rattle.tp_model.specs.Runs.{World}
-use Rattle.tp_model.specs.Walks.{RecoversTo}
-use Rattle.tp_ready.specs.declared.mark_view.Rise.{Rise}
+use Rattle.tp_flush.specs.Lower.{AllByRecursion, Entry, NodeState, t414, Network, State, MayHaveLeft, moment, device_areas, World, RecoversTo, Rise}
 
 -- The device had come to the moment at which the mark was raised. Whatever a crash left at that moment or later opens to where a prefix of
 -- the journal leads. The prefix has each entry below the number to which the mark was raised.

@@ -1,11 +1,6 @@
 -- Why the store didn't switch to its other area.
 use Rattle.std.specs.Prelude.{◌≡◌, ◌<◌, ◌≤◌, ◌+◌, ℕ, Bool, true, false, List, length, Option, Some, None, is_some, Result, Ok, Err}
-use Rattle.tp_model.specs.declared.limits.TheConstants.{NUMBER_LIMIT}
-use Rattle.tp_model.specs.NodeState.{NodeState}
-use Rattle.tp_model.specs.Snapshot.{MarkedNetwork}
-use Rattle.tp_model.specs.Topology.{Topology}
-use Rattle.tp_model.specs.WholeCut.{whole}
-use Rattle.tp_shared.specs.Frozen.{none_kept}
+use Rattle.tp_flush.specs.Lower.{NUMBER_LIMIT, NodeState, MarkedNetwork, Topology, whole, none_kept}
 use Rattle.tp_flush.specs.declared.fault.FlushFault.{FlushFault}
 use Rattle.tp_flush.specs.declared.imaged.Images.{Images}
 use Rattle.tp_flush.specs.declared.imaged.Images.TheVariants.{NoSnapshot}

@@ -1,7 +1,6 @@
 -- The book was told of a call of the device that failed.
 use Rattle.std.specs.Prelude.{◌≡◌, Bool, true, List, [], ◌∷◌, ◌++◌}
-use Rattle.tp_book.specs.Book.{BookValue}
-use Rattle.tp_shared.specs.declared.told.Told.{Told}
+use Rattle.tp_flush.specs.Lower.{BookValue, Told}
 
 -- Of the books that were seen the last one is broken: it journals nothing more.
 pub record WasTold (seen : List BookValue) : Type 0 where

@@ -1,8 +1,7 @@
 //! What the flusher does while a snapshot runs.
 
 ghost use Rattle.std.specs.Prelude.{◌≡◌, ℕ, true, false, length, IfOk};
-ghost use Rattle.tp_model.specs.WriteOrder.{Resting};
-ghost use Rattle.tp_shared.specs.Frozen.{keeps_pages};
+ghost use Rattle.tp_flush.specs.Lower.{Resting, keeps_pages};
 ghost use Rattle.tp_flush.specs.Flushing.{FlushedOn};
 ghost use Rattle.tp_flush.specs.Ends.{Checkpointed, switched_of};
 ghost use Rattle.tp_flush.specs.Images.{ImagedIn, LookedIn};

@@ -1,8 +1,7 @@
 //! The flusher drops the frozen pages of a node.
 
 ghost use Rattle.std.specs.Prelude.{◌≡◌, ◌<◌, true, length, get_or};
-ghost use Rattle.tp_model.specs.WriteOrder.{Resting};
-ghost use Rattle.tp_area.specs.Tails.{content_beside};
+ghost use Rattle.tp_flush.specs.Lower.{Resting, content_beside};
 ghost use Rattle.tp_flush.specs.Copying.{HasRecorded, IsPartOut};
 ghost use Rattle.tp_flush.specs.Progress.{is_out, with_out};
 ghost use Rattle.tp_flush.specs.Flushing.{FlushedOn};

@@ -1,16 +1,7 @@
 //! The flusher.
 
 ghost use Rattle.std.specs.Prelude.{◌≡◌, Ok, Some, true, false};
-ghost use Rattle.std.specs.List.{AllByRecursion};
-ghost use Rattle.tp_law_machine.specs.NodeOfBytes.{IsNodeOfBytes};
-ghost use Rattle.tp_model.specs.DiskHistory.{IsSynced};
-ghost use Rattle.tp_model.specs.Journal.{is_roomy, room};
-ghost use Rattle.tp_model.specs.Node.{t414_ends};
-ghost use Rattle.tp_model.specs.Opening.{held_of, next_of, verdict};
-ghost use Rattle.tp_model.specs.Runs.{reopened};
-ghost use Rattle.tp_model.specs.Spelling.{IsCut};
-ghost use Rattle.tp_ready.specs.Seen.{unrisen};
-ghost use Rattle.tp_shared.specs.Told.{IsFirst};
+ghost use Rattle.tp_flush.specs.Lower.{AllByRecursion, IsNodeOfBytes, IsSynced, is_roomy, room, t414_ends, held_of, next_of, verdict, reopened, IsCut, unrisen, IsFirst};
 ghost use Rattle.tp_flush.specs.Known.{Began, Reached};
 ghost use Rattle.tp_flush.specs.Flushing.{AreGone, position};
 
@@ -140,7 +131,7 @@ impl<J: Naming, D: Disk> Flusher<J, D> {
         self.parts.store.broken
     }
 
-    /// Gives the device. It has to be opened again before it is written.
+    /// Gives the device. It must be opened again before it is written.
     pub fn into_disk(self) -> D
         ensures state { D.state result ≡ self.state }
         ensures size { D.size_of result ≡ self.size }

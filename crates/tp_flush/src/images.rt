@@ -1,10 +1,7 @@
 //! The flusher copies the frozen images of a snapshot, some pages in each hold of the locks.
 
 ghost use Rattle.std.specs.Prelude.{◌≡◌, ◌+◌, ◌*◌, ◌<◌, ◌≤◌, ℕ, [], true, false, flat_map, length, get_or, IfOk};
-ghost use Rattle.tp_model.specs.declared.limits.TheConstants.{MAX_NODES, MAX_PAGES, PAGE_BYTES};
-ghost use Rattle.tp_model.specs.WriteOrder.{Resting};
-ghost use Rattle.tp_area.specs.Tails.{content_beside};
-ghost use Rattle.tp_area.specs.Pieces.{piece_place};
+ghost use Rattle.tp_flush.specs.Lower.{MAX_NODES, MAX_PAGES, PAGE_BYTES, Resting, content_beside, piece_place};
 ghost use Rattle.tp_flush.specs.Copying.{HasRecorded, IsPartOut};
 ghost use Rattle.tp_flush.specs.Progress.{is_out};
 ghost use Rattle.tp_flush.specs.Flushing.{FlushedOn};

@@ -1,14 +1,7 @@
 //! Laws of processes, one after the other. The functions do nothing; their contracts are the laws.
 
 ghost use Rattle.std.specs.Prelude.{ℕ, List};
-ghost use Rattle.tp_model.specs.declared.areas.TwoAreas.{TwoAreas};
-ghost use Rattle.tp_model.specs.declared.form.Form.{Form};
-ghost use Rattle.tp_model.specs.NodeState.{NodeState};
-ghost use Rattle.tp_model.specs.Network.{Network};
-ghost use Rattle.tp_model.specs.Topology.{Topology};
-ghost use Rattle.tp_model.specs.Disk.{MayBe};
-ghost use Rattle.tp_model.specs.Runs.{World};
-ghost use Rattle.tp_law_device.specs.FormattedWorld.{formatted_world, WasFormatted};
+ghost use Rattle.tp_flush.specs.Lower.{TwoAreas, Form, NodeState, Network, Topology, MayBe, World, formatted_world, WasFormatted};
 ghost use Rattle.tp_flush.specs.Known.{Began, Reached};
 
 /// The first process begins with a device that was formatted, of either form, or with what any crash leaves of it.

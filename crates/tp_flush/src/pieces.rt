@@ -1,15 +1,9 @@
 //! The flusher writes a frozen image into the other area, a run of its bytes at a time.
 
 ghost use Rattle.std.specs.Prelude.{◌≡◌, ◌+◌, ◌<◌, ◌≤◌, true, false, length, get_or, IfOk};
-ghost use Rattle.tp_area.specs.Pieces.{piece_place};
-ghost use Rattle.tp_area.specs.Tails.{content_beside};
-ghost use Rattle.tp_model.specs.Disk.{written};
-ghost use Rattle.tp_shared.specs.Pieces.{AreFrozenPages, IsFrozenHead};
-ghost use Rattle.tp_shared.specs.Frozen.{keeps_pages};
+ghost use Rattle.tp_flush.specs.Lower.{piece_place, content_beside, written, AreFrozenPages, IsFrozenHead, keeps_pages, image_length, Resting};
 ghost use Rattle.tp_flush.specs.Copying.{IsGone, IsPartOut};
 ghost use Rattle.tp_flush.specs.Progress.{is_out, with_out};
-ghost use Rattle.tp_model.specs.Journal.{image_length};
-ghost use Rattle.tp_model.specs.WriteOrder.{Resting};
 ghost use Rattle.tp_flush.specs.Flushing.{FlushedOn};
 ghost use Rattle.tp_flush.specs.Ends.{Tried, NothingStored};
 

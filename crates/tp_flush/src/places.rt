@@ -1,8 +1,7 @@
 //! The places of images and their pieces, without a sum over the images before.
 
 ghost use Rattle.std.specs.Prelude.{◌≡◌, ◌+◌, ◌^◌, ◌<◌, ◌≤◌, length};
-ghost use Rattle.tp_model.specs.declared.limits.TheConstants.{MAX_PAGES};
-ghost use Rattle.tp_area.specs.Pieces.{piece_place, place_in_image};
+ghost use Rattle.tp_flush.specs.Lower.{MAX_PAGES, piece_place, place_in_image};
 
 use crate::flusher::Flusher;
 use tp_area::image_length;

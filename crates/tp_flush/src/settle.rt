@@ -1,16 +1,7 @@
 //! What passes and slips are worth: what a pass saw compared with the flusher's mark, and slips compared with its journal.
 
 ghost use Rattle.std.specs.Prelude.{◌≡◌, ◌≤◌, ◌++◌, ℕ, List, drop};
-ghost use Rattle.std.specs.List.{AllByRecursion};
-ghost use Rattle.tp_model.specs.NodeState.{NodeState};
-ghost use Rattle.tp_model.specs.Node.{t414};
-ghost use Rattle.tp_model.specs.Network.{Network};
-ghost use Rattle.tp_model.specs.Disk.{MayBe};
-ghost use Rattle.tp_model.specs.DeviceAreas.{device_areas};
-ghost use Rattle.tp_model.specs.Walks.{RecoversTo};
-ghost use Rattle.tp_model.specs.declared.entry.Entry.{Entry};
-ghost use Rattle.tp_shared.specs.Below.{AreBelow};
-ghost use Rattle.tp_ready.specs.Seen.{number_of};
+ghost use Rattle.tp_flush.specs.Lower.{AllByRecursion, NodeState, t414, Network, MayBe, device_areas, RecoversTo, Entry, AreBelow, number_of};
 ghost use Rattle.tp_flush.specs.Known.{Began};
 ghost use Rattle.tp_flush.specs.Risen.{WasStored};
 ghost use Rattle.tp_flush.specs.Settled.{RecoversWith, SlipsStand};
@@ -22,10 +13,10 @@ use tp_ready::Pass;
 use tp_shared::{Locked, Naming, Seat, Shared};
 
 impl<J: Naming, D: Disk> Flusher<J, D> {
-    /// Proves that what `pass` saw is at most the flusher's mark, at whatever moment `pass` loaded it, also during a turn. What it saw is
-    /// the last of its rises, each dated by a moment that the device had come to. The mark began with the first rise. For each other rise,
-    /// take what any crash left of the device at its moment or later. That opens to where a prefix of the journal leads, and the prefix has
-    /// each entry below the number. The function changes nothing.
+    /// Proves that what `pass` saw is at most the flusher's mark, at whatever moment `pass` loaded it, also during a turn. What it saw is the last of
+    /// its rises, each dated by a moment that the device had come to. The mark began with the first rise. For each other rise, take what any crash
+    /// left of the device at its moment or later. That opens to the network that a prefix of the journal leads to, and the prefix has each entry
+    /// below the number. The function changes nothing.
     pub fn settle_pass(&mut self, shared: &Shared<J>, pass: &mut Pass)
         requires { pass.old.mark ≡ J.mark }
         ensures same { (self.new ≡ self.old) × (pass.new ≡ pass.old) }
@@ -58,10 +49,10 @@ impl<J: Naming, D: Disk> Flusher<J, D> {
         self.settle_seat(&mut held, seat);
     }
 
-    /// Proves what a receipt is worth. Take any slips that are next to each other in `seat`, as those of a receipt are. Let `pass` have
-    /// seen a number above theirs, as the receipt's is, so that it was told that they are stored. Whatever a crash leaves from now on of
-    /// the device as it is, that opens to where a prefix of the journal leads. The prefix has each of their entries at its number, whatever
-    /// became of the other slips. The function changes nothing.
+    /// Proves what a receipt is worth. Take any slips that are next to each other in `seat`, as those of a receipt are. Let `pass` have seen a number
+    /// above theirs, as the receipt's is, so that it was told that they are stored. Whatever a crash leaves from now on of the device as it is, that
+    /// opens to the network that a prefix of the journal leads to. The prefix has each of their entries at its number, whatever became of the other
+    /// slips. The function changes nothing.
     pub fn settle<R: Wait>(
         &mut self,
         rt: &R,

@@ -1,8 +1,7 @@
 //! The mark's raiser in the flusher's hand.
 
 ghost use Rattle.std.specs.Prelude.{◌≡◌, ◌≤◌};
-ghost use Rattle.tp_model.specs.DiskHistory.{moment};
-ghost use Rattle.tp_ready.specs.Seen.{RisesOn, number_of, risen};
+ghost use Rattle.tp_flush.specs.Lower.{moment, RisesOn, number_of, risen};
 ghost use Rattle.tp_flush.specs.Known.{Began, Reached};
 
 use crate::whole::Whole;

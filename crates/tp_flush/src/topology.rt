@@ -1,8 +1,7 @@
 //! The topology of an opened device, for the flusher.
 
 ghost use Rattle.std.specs.Prelude.{◌≡◌, ◌≤◌, length};
-ghost use Rattle.tp_model.specs.declared.limits.TheConstants.{MAX_NODES};
-ghost use Rattle.tp_net.specs.declared.ends.TheConstants.{MAX_LINES};
+ghost use Rattle.tp_flush.specs.Lower.{MAX_NODES, MAX_LINES};
 
 use arrayvec::ArrayVec;
 use tp_model::WireEnd;

@@ -1,7 +1,8 @@
 -- The raw places and the right to free them may cross threads as their items may.
-use Rattle.std.specs.Prelude.{List, [], ◌∷◌, Bool, true, false}
-use base.Fml.{Fml}
-use base.Shift.{Keyless}
+use Rattle.std.proofs.Common.{List, [], ◌∷◌}
+use Rattle.std.specs.Prelude.{Bool, true, false}
+use Rattle.tp_frames.proofs.Lower.{Fml, Keyless, slots, Ghosts}
+use Rattle.core.specs.Mem.Slots.Ownership.{bytes_of}
 use mir.Raw.{raw}
 use mir.Syntax.{ty_array}
 use denote.Memory.{lone}
@@ -10,8 +11,6 @@ use denote.RawPtr.{Ptr, block_ptr, null_ptr, in_block, room_for, ◌+ₚ◌}
 use denote.Struct.Struct.{exits_of}
 use denote.Struct.Owning.{shape, fields, to}
 use denote.Param.Send.{IsSend, AllSend, owning_send, struct_send, sendable}
-use Rattle.core.specs.Mem.Slots.Ownership.{slots, bytes_of}
-use Rattle.core.specs.declared.alloc.Allocator.{Ghosts}
 use Rattle.core.specs.contracts.slots.Slots as Slots
 use Rattle.core.specs.contracts.slots.Lease as Lease
 use Rattle.std_alloc.proofs.SendSync.{FreesAnywhere, quiet, lies}

@@ -1,3 +1,4 @@
+pub mod Lower
 pub mod Crosses
 pub mod Frames
 pub mod Pools

@@ -1,7 +1,6 @@
 -- What is true of every pool stays true.
 use Rattle.std.proofs.Common.{◌≡◌, ℕ, zero, suc, ◌+◌, ◌-◌, ◌<◌, ◌^◌, List, [], ◌∷◌, Option, None, get_or, set, length, replicate, refl, sym, ap, subst, ◌∙◌, arith}
-use Rattle.std.proofs.lemmas.List.{length-set, get_or-set_same, get_or-set_other, set-get_or, length-replicate, get_or-replicate}
-use Rattle.tp_model.specs.Frames.{HeldFrame, Frames, frame, owned, owners_of, bytes_of, IsHeld, with_frame, free_in}
+use Rattle.tp_frames.proofs.Lower.{length-set, get_or-set_same, get_or-set_other, set-get_or, length-replicate, get_or-replicate, HeldFrame, Frames, frame, owned, owners_of, bytes_of, IsHeld, with_frame, free_in}
 use Rattle.tp_frames.specs.FreeList.{frames_of, next_in, AreLinked, IsApart, IsChain, IsPool}
 use Rattle.tp_frames.proofs.Frames.{length-frames_of, frame-frames_of, frames_of-set, owners_of-frames_of, bytes_of-frames_of, held_within, vacancy, vacancy-owned, free_in-set, free_in-le-length}
 

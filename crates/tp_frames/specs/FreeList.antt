@@ -1,7 +1,6 @@
 -- How a pool's frames are kept in its region: the owners beside it, and the free list in the free frames.
 use Rattle.std.specs.Prelude.{◌≡◌, ◌+◌, ◌<◌, ◌^◌, ℕ, List, [], ◌∷◌, None, get_or, length}
-use Rattle.std.specs.Int.{from_le_bytes, w32}
-use Rattle.tp_model.specs.Frames.{Frames, frame, owned, free_in}
+use Rattle.tp_frames.specs.Lower.{from_le_bytes, w32, Frames, frame, owned, free_in}
 
 -- The frames with their numbers of owners, with the bytes of the region.
 abbrev pub frames_of : List ℕ → List (List ℕ) → Frames

@@ -21,8 +21,7 @@ pub(crate) struct Region {
 
 impl Model for Region {
     ghost use Rattle.std.specs.Prelude.{◌≡◌, ℕ, List};
-    ghost use Rattle.core.specs.Mem.Slots.{slots_items, slots_ptr, slots_len, lease_ptr, lease_len, lease_heap, IsFull};
-    ghost use base.Fml.{ftrue};
+    ghost use Rattle.tp_frames.specs.Lower.{slots_items, slots_ptr, slots_len, lease_ptr, lease_len, lease_heap, IsFull, ftrue};
 
     ghost Value = { List (List ℕ) };
 

@@ -1,18 +1,7 @@
 -- Acts as events of a run in which each entry is made with room for it.
-use Rattle.std.proofs.Common.{◌≡◌, ℕ, ◌+◌, ◌*◌, ◌<◌, ◌≤◌, false, List, [], ◌∷◌, length, map, refl, sym, ap, arith, length-append, Some}
-use Rattle.std.specs.List.{AllByRecursion}
-use Rattle.tp_model.specs.declared.entry.Entry.{Entry}
-use Rattle.tp_model.specs.declared.limits.TheConstants.{NUMBER_LIMIT}
-use Rattle.tp_model.specs.NodeState.{NodeState}
-use Rattle.tp_model.specs.Node.{t414}
-use Rattle.tp_model.specs.Journal.{entry_room}
-use Rattle.tp_model.specs.Snapshot.{MarkedNetwork}
-use Rattle.tp_model.specs.Acts.{Act, Begin, Record, Journal, Close, Trim, happens, acted}
-use Rattle.tp_model.specs.TailRoom.{FindsRoom}
-use Rattle.tp_model.specs.KeptRun.{HasByte, ActKeeps, KeptRun}
-use Rattle.tp_model.specs.Runs.{World, Acts, grown, is_trim}
-use Rattle.tp_law_network.proofs.Partial.{bind_some}
-use Rattle.tp_law_network.proofs.Stays.{entries_grow}
+use Rattle.std.proofs.Common.{◌≡◌, ℕ, ◌+◌, ◌*◌, ◌<◌, ◌≤◌, false, List, [], ◌∷◌, length, refl, sym, ap, arith, length-append, Some}
+use Rattle.std.specs.Prelude.{map}
+use Rattle.tp_law_device.proofs.Lower.{AllByRecursion, Entry, NUMBER_LIMIT, NodeState, t414, entry_room, MarkedNetwork, Act, Begin, Record, Journal, Close, Trim, happens, acted, FindsRoom, HasByte, ActKeeps, KeptRun, World, Acts, grown, is_trim, bind_some, entries_grow}
 
 -- the journal after acts
 abbrev pub journal_after : List Act → List Entry → List Entry

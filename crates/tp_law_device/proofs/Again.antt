@@ -1,34 +1,7 @@
 -- A network that has what opening reads has an image.
-use Rattle.std.proofs.Common.{◌≡◌, ℕ, suc, ◌+◌, ◌<◌, ◌≤◌, true, false, not, List, [], ◌∷◌, length, refl, sym, ap, subst, ◌∙◌, arith, Option, Some, None, slice_get, eq-eqb}
-use Rattle.std.specs.Prelude.{nat_lt, ◌&&◌, length}
-use Rattle.std.specs.List.{AllByRecursion}
-use Rattle.std.proofs.lemmas.Bool.{and_from}
-use Rattle.tp_model.specs.declared.link.Token.{Token}
-use Rattle.tp_model.specs.declared.link.Token.TheVariants.{Data, Ack, Marker}
-use Rattle.tp_model.specs.declared.wire.WireEnd.{WireEnd}
-use Rattle.tp_model.specs.declared.limits.TheConstants.{NUMBER_LIMIT}
-use Rattle.tp_model.specs.Word.{bit}
-use Rattle.tp_model.specs.NodeState.{NodeState}
-use Rattle.tp_model.specs.Node.{t414, t414_ends}
-use Rattle.tp_model.specs.Image.{IsNode}
-use Rattle.tp_model.specs.Network.{Network, receiver, is_wired, has_wire, back, on_line}
-use Rattle.tp_model.specs.Entries.{process}
-use Rattle.tp_model.specs.Order.{pre}
-use Rattle.tp_model.specs.Sound.{datas, acks, end_waits, end_holds, Sound}
-use Rattle.tp_model.specs.Markers.{markers}
-use Rattle.tp_model.specs.Snapshot.{MarkedNetwork}
-use Rattle.tp_model.specs.WholeCut.{WholeCut, count_in, all_some, network_in}
-use Rattle.tp_model.specs.Acts.{CutHolds}
-use Rattle.tp_model.specs.Topology.{Topology, is_topology}
-use Rattle.tp_model.specs.CutImage.{is_line_of, is_port_of}
-use Rattle.tp_model.specs.Flight.{is_in_one_place}
-use Rattle.tp_model.specs.Spelling.{has_record, are_lines, IsCut}
-use Rattle.tp_model.specs.KeptRun.{HasByte}
-use Rattle.tp_law_machine.specs.NodeOfBytes.{IsNodeOfBytes}
-use Rattle.tp_law_machine.proofs.LinkLaws.{has_four_links}
-use Rattle.tp_law_network.proofs.Choice.{length-pre-post, chosen_keeps}
-use Rattle.tp_law_network.proofs.Sound.{sound_small}
-use Rattle.tp_law_network.proofs.Kept.{cut_network}
+use Rattle.std.proofs.Common.{◌≡◌, ℕ, suc, ◌+◌, ◌<◌, ◌≤◌, true, false, not, List, [], ◌∷◌, length, refl, sym, ap, subst, ◌∙◌, arith, Option, Some, None, slice_get}
+use Rattle.std.specs.Prelude.{nat_lt, ◌&&◌}
+use Rattle.tp_law_device.proofs.Lower.{eq-eqb, AllByRecursion, and_from, Token, Data, Ack, Marker, WireEnd, NUMBER_LIMIT, bit, NodeState, t414, t414_ends, IsNode, Network, receiver, is_wired, has_wire, back, on_line, process, pre, datas, acks, end_waits, end_holds, Sound, markers, MarkedNetwork, WholeCut, count_in, all_some, network_in, CutHolds, Topology, is_topology, is_line_of, is_port_of, is_in_one_place, has_record, are_lines, IsCut, HasByte, IsNodeOfBytes, has_four_links, length-pre-post, chosen_keeps, sound_small, cut_network}
 use Rattle.tp_law_device.specs.CutSpelt.{CutSpelt}
 use Rattle.tp_law_device.proofs.Kept.{CutKeeps, cut_keeps, keeps_after}
 use Rattle.tp_law_device.proofs.Ports.{port_of_cut}

@@ -1,23 +1,6 @@
 -- What each moment of a run over a device that was formatted has.
 use Rattle.std.proofs.Common.{◌≡◌, ℕ, ◌+◌, ◌≤◌, List, [], ◌++◌, length, ap, subst, ◌∙◌, Some, slice_get}
-use Rattle.std.specs.List.{count_by}
-use Rattle.tp_model.specs.NodeState.{NodeState}
-use Rattle.tp_model.specs.Node.{t414, t414_ends}
-use Rattle.tp_model.specs.Network.{Network, Port, on_line}
-use Rattle.tp_model.specs.Entries.{process}
-use Rattle.tp_model.specs.Order.{after, pre, post}
-use Rattle.tp_model.specs.Counted.{accepted, came_out, is_input, is_output}
-use Rattle.tp_model.specs.Markers.{plain_network}
-use Rattle.tp_model.specs.Sound.{Sound}
-use Rattle.tp_model.specs.WholeCut.{WholeCut, count_in, whole}
-use Rattle.tp_model.specs.Areas.{Held}
-use Rattle.tp_model.specs.Opening.{opening, verdict}
-use Rattle.tp_model.specs.DeviceAreas.{device_areas}
-use Rattle.tp_model.specs.Runs.{World, Event, Run, BeginsFormatted}
-use Rattle.tp_law_machine.proofs.LinkLaws.{has_four_links, never_marks, keeps_flight}
-use Rattle.tp_law_network.proofs.Counted.{after_counted}
-use Rattle.tp_law_network.proofs.History.{journal_leads, kept_leads, stays_sound, three_tokens}
-use Rattle.tp_law_network.proofs.Runs.{snapshots}
+use Rattle.tp_law_device.proofs.Lower.{count_by, NodeState, t414, t414_ends, Network, Port, on_line, process, after, pre, post, accepted, came_out, is_input, is_output, plain_network, Sound, WholeCut, count_in, whole, Held, opening, verdict, device_areas, World, Event, Run, BeginsFormatted, has_four_links, never_marks, keeps_flight, after_counted, journal_leads, kept_leads, stays_sound, three_tokens, snapshots}
 use Rattle.tp_law_device.proofs.Holds.{areas_keep}
 use Rattle.tp_law_device.proofs.Opens.{held_opened}
 use Rattle.tp_law_device.proofs.Verdicts.{verdict_sound}

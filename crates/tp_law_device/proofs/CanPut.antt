@@ -1,50 +1,12 @@
 -- A whole cut with its tail can be put into the other area.
-use Rattle.std.proofs.Common.{◌≡◌, ℕ, ◌+◌, ◌-◌, ◌*◌, ◌<◌, ◌≤◌, ◌⊎◌, inl, true, false, not, cond, List, [], ◌∷◌, length, map, refl, sym, ap, subst, ◌∙◌, arith, le_refl, Some, Ok}
-use Rattle.std.specs.Prelude.{nat_lt, length}
-use Rattle.std.specs.List.{AllByRecursion}
-use Rattle.std.proofs.lemmas.Bool.{and_from, and_parts, lt-ltb}
-use Rattle.std.proofs.lemmas.List.{length-map}
-use Rattle.tp_model.specs.declared.entry.Entry.{Entry}
-use Rattle.tp_model.specs.declared.limits.TheConstants.{NUMBER_LIMIT}
-use Rattle.tp_model.specs.declared.form.Form.TheVariants.{Turns}
-use Rattle.tp_model.specs.NodeState.{NodeState}
-use Rattle.tp_model.specs.Node.{t414, t414_ends}
-use Rattle.tp_model.specs.Network.{Network}
-use Rattle.tp_model.specs.Entries.{process}
-use Rattle.tp_model.specs.Order.{after, pre, post}
-use Rattle.tp_model.specs.Markers.{plain_network}
-use Rattle.tp_model.specs.Numbers.{AreNumbered}
-use Rattle.tp_model.specs.Snapshot.{MarkedNetwork}
-use Rattle.tp_model.specs.WholeCut.{WholeCut, count_in, network_in}
-use Rattle.tp_model.specs.Acts.{CutHolds}
-use Rattle.tp_model.specs.Topology.{Topology, is_topology}
-use Rattle.tp_model.specs.Journal.{entry_room, room, is_roomy}
-use Rattle.tp_model.specs.EntryBytes.{is_in_range}
-use Rattle.tp_model.specs.Areas.{Held}
-use Rattle.tp_model.specs.WriteOrder.{Resting}
-use Rattle.tp_model.specs.Device.{is_open}
-use Rattle.tp_model.specs.Spelling.{IsCut, SpellsArea, entries_in}
-use Rattle.tp_model.specs.Opening.{Opened, held_of, opening}
-use Rattle.tp_model.specs.DeviceAreas.{other_start, other_is_open, other_content, spare_of, device_areas}
-use Rattle.tp_model.specs.Runs.{World, Event, copy_of, HasCut, BeginsFormatted}
-use Rattle.tp_law_machine.proofs.LinkLaws.{has_four_links}
-use Rattle.tp_law_machine.proofs.Numbers.{AreBytes}
-use Rattle.tp_law_network.proofs.Choice.{length-pre-post, chosen_keeps}
-use Rattle.tp_law_network.proofs.Reorder.{after_front}
-use Rattle.tp_law_network.specs.Invariant.{CutInvariant}
-use Rattle.tp_law_network.proofs.Kept.{cut_network}
-use Rattle.tp_law_network.proofs.Whole.{whole_holds}
-use Rattle.tp_law_network.proofs.Moments.{length-written, get_or-written_outside}
-use Rattle.tp_law_network.proofs.Invariant.{At}
-use Rattle.tp_law_network.proofs.Prefix.{held_of as kept_of}
+use Rattle.std.proofs.Common.{◌≡◌, ℕ, ◌+◌, ◌-◌, ◌*◌, ◌<◌, ◌≤◌, ◌⊎◌, inl, true, false, not, cond, List, [], ◌∷◌, length, refl, sym, ap, subst, ◌∙◌, arith, le_refl, Some, Ok}
+use Rattle.std.specs.Prelude.{map, nat_lt}
+use Rattle.tp_law_device.proofs.Lower.{AllByRecursion, and_from, and_parts, lt-ltb, length-map, Entry, NUMBER_LIMIT, Turns, NodeState, t414, t414_ends, Network, process, after, pre, post, plain_network, AreNumbered, MarkedNetwork, WholeCut, count_in, network_in, CutHolds, Topology, is_topology, entry_room, room, is_roomy, is_in_range, Held, Resting, is_open, IsCut, SpellsArea, entries_in, Opened, held_of, opening, other_start, other_is_open, other_content, spare_of, device_areas, World, Event, copy_of, HasCut, BeginsFormatted, has_four_links, AreBytes, length-pre-post, chosen_keeps, after_front, CutInvariant, cut_network, whole_holds, length-written, get_or-written_outside, At, kept_of, tail_of, CopySpelt, KeptRun}
 use Rattle.tp_law_device.proofs.Contents.{places}
 use Rattle.tp_law_device.proofs.ReadAreas.{opens_stand}
 use Rattle.tp_law_device.proofs.Opens.{reads_of, held_from, layout}
 use Rattle.tp_law_device.proofs.Spare.{loose_keeps}
 use Rattle.tp_law_device.proofs.Switches.{switched_holds}
-use Rattle.tp_model.specs.CutTail.{tail_of}
-use Rattle.tp_model.specs.CopySpelt.{CopySpelt}
-use Rattle.tp_model.specs.KeptRun.{KeptRun}
 use Rattle.tp_law_device.specs.CutSpelt.{CutSpelt}
 use Rattle.tp_law_device.specs.InGroups.{in_groups}
 use Rattle.tp_law_device.specs.CanPut.{with_other, CanPut}

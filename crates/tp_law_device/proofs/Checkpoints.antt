@@ -1,27 +1,7 @@
 -- If the other area spells what was copied, opening chooses it once its gate is open; and so a checkpoint is a run.
 use Rattle.std.proofs.Common.{◌≡◌, ℕ, ◌+◌, ◌<◌, ◌≤◌, false, not, cond, List, [], ◌∷◌, ◌++◌, length, get_or, refl, sym, ap, subst, ◌∙◌, arith, Some, None, Ok}
 use Rattle.std.specs.Prelude.{map}
-use Rattle.std.specs.List.{AllByRecursion}
-use Rattle.std.proofs.lemmas.Bool.{lt-ltb}
-use Rattle.tp_model.specs.declared.entry.Entry.{Entry}
-use Rattle.tp_model.specs.declared.form.Form.{Form}
-use Rattle.tp_model.specs.NodeState.{NodeState}
-use Rattle.tp_model.specs.Node.{t414, t414_ends}
-use Rattle.tp_model.specs.Network.{Machine, Network}
-use Rattle.tp_model.specs.Sound.{EndsSeen}
-use Rattle.tp_model.specs.WholeCut.{WholeCut, trimmed}
-use Rattle.tp_model.specs.Disk.{Moment, Call, Write, Sync, written, done, within, IsWithin}
-use Rattle.tp_model.specs.StoreCalls.{all_done, put_calls}
-use Rattle.tp_model.specs.Areas.{Held, gate_open}
-use Rattle.tp_model.specs.Device.{is_open}
-use Rattle.tp_model.specs.Spelling.{entries_in}
-use Rattle.tp_model.specs.Opening.{Opened, held_of, area_in, opening, verdict}
-use Rattle.tp_model.specs.DeviceAreas.{device_areas, other_start, other_is_open, other_content, spare_of, if_newer, other_of}
-use Rattle.tp_model.specs.WriteOrder.{Resting, Tail, Opening, Opened as AfterOpening, switching, switch_done}
-use Rattle.tp_model.specs.Runs.{World, Event, CopiesTail, Does, Trims, Run, HasCut, copy_of}
-use Rattle.tp_law_machine.proofs.Moments.{may_be_written, loose_may, length-written, get_or-written_outside, get_or-written_inside}
-use Rattle.tp_law_network.proofs.Planned.{tail_run}
-use Rattle.tp_law_network.proofs.Walks.{run_then}
+use Rattle.tp_law_device.proofs.Lower.{AllByRecursion, lt-ltb, Entry, Form, NodeState, t414, t414_ends, Machine, Network, EndsSeen, WholeCut, trimmed, Moment, Call, Write, Sync, written, done, within, IsWithin, all_done, put_calls, Held, gate_open, is_open, entries_in, Opened, held_of, area_in, opening, verdict, device_areas, other_start, other_is_open, other_content, spare_of, if_newer, other_of, Resting, Tail, Opening, AfterOpening, switching, switch_done, World, Event, CopiesTail, Does, Trims, Run, HasCut, copy_of, may_be_written, loose_may, length-written, get_or-written_outside, get_or-written_inside, tail_run, run_then}
 use Rattle.tp_law_device.specs.Checkpoints.{SpellsCopy, Switches}
 use Rattle.tp_law_device.proofs.Wires.{has_shape}
 use Rattle.tp_law_device.proofs.Heads.{head_parts}

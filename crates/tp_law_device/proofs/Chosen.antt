@@ -1,11 +1,7 @@
 -- Which area is taken.
 use Rattle.std.proofs.Common.{◌≡◌, ℕ, ◌<◌, Bool, true, false, not, cond, List, refl, ◌∙◌, arith, Ok, Err}
 use Rattle.std.specs.Prelude.{nat_lt}
-use Rattle.std.proofs.lemmas.Bool.{lt-ltb, le-ltb}
-use Rattle.tp_model.specs.declared.areas.TwoAreas.{TwoAreas}
-use Rattle.tp_model.specs.declared.opening.OpenFault.TheVariants.{Damaged}
-use Rattle.tp_model.specs.Device.{area_start, gate_of, content_of, is_open, generation_of}
-use Rattle.tp_model.specs.Opening.{choice, chosen_area}
+use Rattle.tp_law_device.proofs.Lower.{lt-ltb, le-ltb, TwoAreas, Damaged, area_start, gate_of, content_of, is_open, generation_of, choice, chosen_area}
 
 -- the gate and the generation of an area
 abbrev pub open_in : TwoAreas → List ℕ → Bool → Bool

@@ -1,24 +1,7 @@
 -- A content that spells a cut and its tail.
-use Rattle.std.proofs.Common.{◌≡◌, ℕ, ◌+◌, ◌-◌, ◌*◌, ◌<◌, ◌≤◌, true, List, [], ◌∷◌, ◌++◌, length, map, refl, sym, ap, subst, ◌∙◌, arith, length-append, le_refl, Some}
-use Rattle.std.specs.List.{AllByRecursion}
-use Rattle.std.proofs.lemmas.Bool.{leb-true}
-use Rattle.std.proofs.lemmas.List.{length-replicate}
-use Rattle.tp_model.specs.declared.entry.Entry.{Entry}
-use Rattle.tp_model.specs.declared.limits.TheConstants.{GATE_CLOSED, NUMBER_LIMIT}
-use Rattle.tp_model.specs.Bytes.{zeros}
-use Rattle.tp_model.specs.declared.form.Form.TheVariants.{Turns}
-use Rattle.tp_model.specs.NodeState.{NodeState}
-use Rattle.tp_model.specs.Image.{IsNode}
-use Rattle.tp_model.specs.Node.{t414, t414_ends}
-use Rattle.tp_model.specs.Network.{Network}
-use Rattle.tp_model.specs.Order.{after}
-use Rattle.tp_model.specs.Sound.{EndsSeen}
-use Rattle.tp_model.specs.Numbers.{AreNumbered}
-use Rattle.tp_model.specs.Topology.{Topology, is_topology}
-use Rattle.tp_model.specs.Journal.{entry_room, room, is_roomy}
-use Rattle.tp_model.specs.Spelling.{front_bytes, groups_bytes, entries_in, IsCut, SpellsArea}
-use Rattle.tp_model.specs.Opening.{groups_place}
-use Rattle.tp_law_machine.proofs.Images.{node_of-image}
+use Rattle.std.proofs.Common.{◌≡◌, ℕ, ◌+◌, ◌-◌, ◌*◌, ◌<◌, ◌≤◌, true, List, [], ◌∷◌, ◌++◌, length, refl, sym, ap, subst, ◌∙◌, arith, length-append, le_refl, Some}
+use Rattle.std.specs.Prelude.{map}
+use Rattle.tp_law_device.proofs.Lower.{AllByRecursion, leb-true, length-replicate, Entry, GATE_CLOSED, NUMBER_LIMIT, zeros, Turns, NodeState, IsNode, t414, t414_ends, Network, after, EndsSeen, AreNumbered, Topology, is_topology, entry_room, room, is_roomy, front_bytes, groups_bytes, entries_in, IsCut, SpellsArea, groups_place, node_of-image}
 use Rattle.tp_law_device.proofs.Forms.{are_of_turns}
 use Rattle.tp_law_device.proofs.Formattable.{length-front_bytes}
 use Rattle.tp_law_device.proofs.Wires.{has_shape}

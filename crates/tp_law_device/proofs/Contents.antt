@@ -1,9 +1,6 @@
 -- Where the areas are, and which bytes their contents are.
 use Rattle.std.proofs.Common.{◌≡◌, ℕ, ◌+◌, ◌-◌, ◌<◌, ◌≤◌, ◌⊎◌, inl, inr, Bool, true, false, not, List, ◌++◌, length, take, drop, get_or, refl, sym, ap, ◌∙◌, arith, length-take, length-drop}
-use Rattle.std.proofs.lemmas.List.{take-take, take-append-drop, get_or-take, get_or-drop}
-use Rattle.std.proofs.lemmas.Grind.{same_number_lists}
-use Rattle.tp_model.specs.declared.areas.TwoAreas.{TwoAreas}
-use Rattle.tp_model.specs.Device.{area_start, content_of}
+use Rattle.tp_law_device.proofs.Lower.{take-take, take-append-drop, get_or-take, get_or-drop, same_number_lists, TwoAreas, area_start, content_of}
 use Rattle.tp_law_device.proofs.Fronts.{SameFront, part_from, u64_front}
 use Rattle.tp_law_device.proofs.Chosen.{age_in}
 

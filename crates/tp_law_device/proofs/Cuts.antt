@@ -1,23 +1,7 @@
 -- A cut image is read of its own bytes alone.
 use Rattle.std.proofs.Common.{◌≡◌, ℕ, zero, suc, ◌+◌, ◌*◌, ◌%◌, ◌^◌, ◌<◌, Bool, true, false, List, [], ◌∷◌, length, take, drop, refl, sym, ap, ◌∙◌, arith, Option, Some, Ok}
 use Rattle.std.specs.Prelude.{◌==◌, ◌&&◌, nat_le, bytes_eq, sum_by}
-use Rattle.std.proofs.lemmas.Bool.{and_parts, leb-true}
-use Rattle.std.proofs.lemmas.List.Sums.{sum_by-cons}
-use Rattle.std.proofs.lemmas.Nat.{from_le_bytes-to_le_bytes_2}
-use Rattle.std.proofs.lemmas.Slice.Eq.{bytes_eq-Decides}
-use Rattle.tp_model.specs.declared.wire.WireEnd.{WireEnd}
-use Rattle.tp_model.specs.declared.limits.TheConstants.{MAX_HELD, NUMBER_LIMIT}
-use Rattle.tp_model.specs.Results.{◌>>=◌}
-use Rattle.tp_model.specs.Bytes.{u16_at}
-use Rattle.tp_model.specs.NodeState.{NodeState}
-use Rattle.tp_model.specs.Image.{page_count, node_of}
-use Rattle.tp_model.specs.Network.{Port, Network}
-use Rattle.tp_model.specs.Sound.{EndsSeen}
-use Rattle.tp_model.specs.Topology.{Topology, line_count}
-use Rattle.tp_model.specs.Journal.{image_length}
-use Rattle.tp_model.specs.Flight.{flights_in}
-use Rattle.tp_model.specs.CutImage.{only_if, tokens_of, is_record, is_line_of, line_with, port_at, port_bytes, is_port_of, port_with, or_damaged, nodes_in, lines_in, ports_in}
-use Rattle.tp_model.specs.Opening.{base_field, base_of, nodes_place, lines_place, ports_place, groups_place, network_of, cut_in}
+use Rattle.tp_law_device.proofs.Lower.{and_parts, leb-true, sum_by-cons, from_le_bytes-to_le_bytes_2, bytes_eq-Decides, WireEnd, MAX_HELD, NUMBER_LIMIT, ◌>>=◌, u16_at, NodeState, page_count, node_of, Port, Network, EndsSeen, Topology, line_count, image_length, flights_in, only_if, tokens_of, is_record, is_line_of, line_with, port_at, port_bytes, is_port_of, port_with, or_damaged, nodes_in, lines_in, ports_in, base_field, base_of, nodes_place, lines_place, ports_place, groups_place, network_of, cut_in}
 use Rattle.tp_law_device.proofs.Faults.{bind_ok, or_damaged_ok}
 use Rattle.tp_law_device.proofs.Fronts.{SameFront, front_shorter, front_part, front_get, u16_front, u64_front, whole_front}
 

@@ -1,26 +1,7 @@
 -- A network that is read of a cut image is sound.
 use Rattle.std.proofs.Common.{◌≡◌, ℕ, suc, ◌+◌, ◌*◌, ◌<◌, true, false, List, [], ◌∷◌, length, drop, refl, sym, ap, subst, ◌∙◌, arith, Option, Some, None, Ok}
 use Rattle.std.specs.Prelude.{◌&&◌, nat_lt}
-use Rattle.std.specs.Option.{option_map}
-use Rattle.std.proofs.lemmas.Bool.{and_parts, ltb-true, eqb-true, false≢true}
-use Rattle.std.proofs.lemmas.List.{length-map}
-use Rattle.tp_model.specs.declared.wire.WireEnd.{WireEnd}
-use Rattle.tp_model.specs.declared.wire.WireEnd.TheVariants.{Link}
-use Rattle.tp_model.specs.NodeState.{NodeState}
-use Rattle.tp_model.specs.Image.{page_count}
-use Rattle.tp_model.specs.Network.{Machine, Network, receiver, has_wire, on_line, line_of, back}
-use Rattle.tp_model.specs.Markers.{markers}
-use Rattle.tp_model.specs.Order.{after}
-use Rattle.tp_model.specs.Acts.{IsOpened}
-use Rattle.tp_model.specs.Runs.{fresh}
-use Rattle.tp_model.specs.Sound.{EndsSeen, Wired, Sound}
-use Rattle.tp_model.specs.Topology.{Topology, node_count, line_count, is_end, is_line, joins_link, leads_back, is_topology}
-use Rattle.tp_model.specs.Spelling.{are_lines, IsCut}
-use Rattle.tp_law_network.proofs.InPlace.{flights_found, sound_in_place}
-use Rattle.tp_model.specs.Flight.{is_in_one_place, flights_in}
-use Rattle.tp_model.specs.CutImage.{or_damaged, node_with, nodes_in, lines_in, ports_in}
-use Rattle.tp_model.specs.Journal.{image_length}
-use Rattle.tp_model.specs.Opening.{base_of, nodes_place, lines_place, ports_place, network_of, cut_in}
+use Rattle.tp_law_device.proofs.Lower.{option_map, and_parts, ltb-true, eqb-true, false≢true, length-map, WireEnd, Link, NodeState, page_count, Machine, Network, receiver, has_wire, on_line, line_of, back, markers, after, IsOpened, fresh, EndsSeen, Wired, Sound, Topology, node_count, line_count, is_end, is_line, joins_link, leads_back, is_topology, are_lines, IsCut, flights_found, sound_in_place, is_in_one_place, flights_in, or_damaged, node_with, nodes_in, lines_in, ports_in, image_length, base_of, nodes_place, lines_place, ports_place, network_of, cut_in}
 use Rattle.tp_law_device.proofs.Faults.{bind_ok}
 use Rattle.tp_law_device.proofs.Wires.{HasShape, has_shape, each_leads}
 use Rattle.tp_law_device.proofs.ReadCuts.{lines_read, ports_read}

@@ -1,39 +1,7 @@
 -- The first checkpoint of a device that was formatted, without an entry yet.
 use Rattle.std.proofs.Common.{◌≡◌, ℕ, ◌+◌, ◌-◌, ◌≤◌, true, false, cond, List, [], ◌∷◌, ◌++◌, length, take, drop, refl, sym, ap, subst, ◌∙◌, arith, append_assoc, length-append, length-take, Some, Ok}
-use Rattle.std.specs.Prelude.{nat_le, map, length}
-use Rattle.std.specs.List.{AllByRecursion}
-use Rattle.std.proofs.lemmas.Bool.{and_parts, leb-true}
-use Rattle.std.proofs.lemmas.List.{drop_at}
-use Rattle.std.proofs.Math.Seq.{take-append-add}
-use Rattle.tp_model.specs.declared.areas.TwoAreas.{TwoAreas}
-use Rattle.tp_model.specs.declared.limits.TheConstants.{GATE_CLOSED}
-use Rattle.tp_model.specs.declared.form.Form.{Form}
-use Rattle.tp_model.specs.declared.form.Form.TheVariants.{Turns}
-use Rattle.tp_model.specs.NodeState.{NodeState}
-use Rattle.tp_model.specs.Node.{t414, t414_ends}
-use Rattle.tp_model.specs.Network.{Machine, Network, own, put, taken, pushed, sent}
-use Rattle.tp_model.specs.Entries.{process}
-use Rattle.tp_model.specs.Order.{after, chosen, made, pre, post}
-use Rattle.tp_model.specs.Snapshot.{MarkedNetwork}
-use Rattle.tp_model.specs.WholeCut.{WholeCut, count_in, network_in, whole}
-use Rattle.tp_model.specs.Acts.{Act, acted, happens}
-use Rattle.tp_model.specs.Disk.{written, IsWithin}
-use Rattle.tp_model.specs.Areas.{Held}
-use Rattle.tp_model.specs.Topology.{Topology}
-use Rattle.tp_model.specs.Journal.{is_roomy}
-use Rattle.tp_model.specs.Device.{area_start, areas_end, content_of, is_open}
-use Rattle.tp_model.specs.Spelling.{front_bytes, groups_bytes}
-use Rattle.tp_model.specs.Opening.{Opened, groups_place, opening, verdict}
-use Rattle.tp_model.specs.DeviceAreas.{device_areas, other_start, other_is_open, spare_of}
-use Rattle.tp_model.specs.Runs.{World, Acts, HasCut, copy_of, fresh, is_trim}
-use Rattle.tp_law_machine.proofs.LinkLaws.{has_four_links, never_marks}
-use Rattle.tp_law_network.proofs.Partial.{bind_some}
-use Rattle.tp_law_network.specs.Invariant.{CutInvariant}
-use Rattle.tp_law_network.proofs.Happens.{acted_holds, opened_holds}
-use Rattle.tp_law_network.proofs.Kept.{cut_network}
-use Rattle.tp_law_network.proofs.Stays.{start_stays}
-use Rattle.tp_law_network.proofs.Whole.{whole_holds}
-use Rattle.tp_law_network.proofs.Walks.{acts_run}
+use Rattle.std.specs.Prelude.{nat_le, map}
+use Rattle.tp_law_device.proofs.Lower.{AllByRecursion, and_parts, leb-true, drop_at, take-append-add, TwoAreas, GATE_CLOSED, Form, Turns, NodeState, t414, t414_ends, Machine, Network, own, put, taken, pushed, sent, process, after, chosen, made, pre, post, MarkedNetwork, WholeCut, count_in, network_in, whole, Act, acted, happens, written, IsWithin, Held, Topology, is_roomy, area_start, areas_end, content_of, is_open, front_bytes, groups_bytes, Opened, groups_place, opening, verdict, device_areas, other_start, other_is_open, spare_of, World, Acts, HasCut, copy_of, fresh, is_trim, has_four_links, never_marks, bind_some, CutInvariant, acted_holds, opened_holds, cut_network, start_stays, whole_holds, acts_run}
 use Rattle.tp_law_device.specs.FormattedWorld.{formatted_world, WasFormatted}
 use Rattle.tp_law_device.specs.Checkpoints.{HasCheckpoint, HasSnapshot}
 use Rattle.tp_law_device.proofs.Wires.{HasShape, has_shape}

@@ -1,25 +1,7 @@
 -- A device that was formatted, for each topology and each network of images.
 use Rattle.std.proofs.Common.{◌≡◌, ℕ, ◌+◌, ◌-◌, ◌^◌, ◌<◌, ◌≤◌, true, false, List, ◌∷◌, ◌++◌, length, take, drop, get_or, sym, ap, ◌∙◌, arith, append_assoc, length-append, Some}
 use Rattle.std.specs.Prelude.{nat_le, flat_map, sum_by}
-use Rattle.std.proofs.lemmas.Bool.{and_from, le-leb, leb-true}
-use Rattle.std.proofs.lemmas.List.{take_at, drop_at, drop-drop, get_or_at, length-replicate}
-use Rattle.tp_model.specs.declared.areas.TwoAreas.{TwoAreas}
-use Rattle.tp_model.specs.declared.limits.TheConstants.{GATE_OPEN, GATE_CLOSED}
-use Rattle.tp_model.specs.Bytes.{zeros}
-use Rattle.tp_model.specs.declared.form.Form.{Form}
-use Rattle.tp_model.specs.NodeState.{NodeState}
-use Rattle.tp_model.specs.Image.{image}
-use Rattle.tp_model.specs.Network.{Network}
-use Rattle.tp_model.specs.Sound.{EndsSeen}
-use Rattle.tp_model.specs.Node.{t414_ends}
-use Rattle.tp_model.specs.Topology.{Topology, is_topology}
-use Rattle.tp_model.specs.Journal.{image_length, is_roomy}
-use Rattle.tp_model.specs.Device.{areas_end, gate_of, content_of}
-use Rattle.tp_model.specs.Head.{head_length, head_bytes, version_for}
-use Rattle.tp_model.specs.CutImage.{line_bytes, port_bytes, cut_bytes}
-use Rattle.tp_model.specs.Spelling.{front_bytes}
-use Rattle.tp_model.specs.Opening.{groups_place}
-use Rattle.tp_model.specs.Format.{start_of}
+use Rattle.tp_law_device.proofs.Lower.{and_from, le-leb, leb-true, take_at, drop_at, drop-drop, get_or_at, length-replicate, TwoAreas, GATE_OPEN, GATE_CLOSED, zeros, Form, NodeState, image, Network, EndsSeen, t414_ends, Topology, is_topology, image_length, is_roomy, areas_end, gate_of, content_of, head_length, head_bytes, version_for, line_bytes, port_bytes, cut_bytes, front_bytes, groups_place, start_of}
 use Rattle.tp_law_device.specs.FormattedWorld.{WasFormatted}
 use Rattle.tp_law_device.proofs.Heads.{version_keeps}
 use Rattle.tp_law_device.proofs.Wires.{HasShape, has_shape}

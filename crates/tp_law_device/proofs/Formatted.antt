@@ -1,29 +1,7 @@
 -- A device that was formatted holds the network of its images, before its first entry.
 use Rattle.std.proofs.Common.{◌≡◌, ℕ, zero, suc, ◌<◌, true, false, List, [], ◌∷◌, length, refl, sym, ap, ◌∙◌, arith, Option, Some, Ok}
 use Rattle.std.specs.Prelude.{map, replicate}
-use Rattle.std.proofs.lemmas.Bool.{false≢true}
-use Rattle.std.proofs.lemmas.List.{length-replicate, length-map}
-use Rattle.tp_model.specs.declared.areas.TwoAreas.{TwoAreas}
-use Rattle.tp_model.specs.declared.link.Token.{Token}
-use Rattle.tp_model.specs.declared.wire.WireEnd.{WireEnd}
-use Rattle.tp_model.specs.declared.limits.TheConstants.{GATE_CLOSED}
-use Rattle.tp_model.specs.Image.{page_count}
-use Rattle.tp_model.specs.declared.form.Form.{Form}
-use Rattle.tp_model.specs.NodeState.{NodeState}
-use Rattle.tp_model.specs.Network.{Machine, Network, has_wire, on_line}
-use Rattle.tp_model.specs.Markers.{markers, plain}
-use Rattle.tp_model.specs.Order.{after}
-use Rattle.tp_model.specs.Acts.{IsOpened}
-use Rattle.tp_model.specs.Node.{t414, t414_ends}
-use Rattle.tp_model.specs.Topology.{Topology, node_count, line_count}
-use Rattle.tp_model.specs.Device.{content_of, is_open}
-use Rattle.tp_model.specs.Head.{Head, version_for}
-use Rattle.tp_model.specs.Spelling.{groups_bytes}
-use Rattle.tp_model.specs.Opening.{Opened, network_of, opening, verdict, StandsFor}
-use Rattle.tp_model.specs.Format.{start_of, fresh_nodes, fresh_port}
-use Rattle.tp_model.specs.Runs.{fresh, BeginsFormatted}
-use Rattle.tp_model.specs.DeviceAreas.{areas_of}
-use Rattle.tp_law_network.proofs.Partial.{map_some}
+use Rattle.tp_law_device.proofs.Lower.{false≢true, length-replicate, length-map, TwoAreas, Token, WireEnd, GATE_CLOSED, page_count, Form, NodeState, Machine, Network, has_wire, on_line, markers, plain, after, IsOpened, t414, t414_ends, Topology, node_count, line_count, content_of, is_open, Head, version_for, groups_bytes, Opened, network_of, opening, verdict, StandsFor, start_of, fresh_nodes, fresh_port, fresh, BeginsFormatted, areas_of, map_some}
 use Rattle.tp_law_device.specs.FormattedWorld.{formatted_world, WasFormatted}
 use Rattle.tp_law_device.proofs.Heads.{version_keeps}
 use Rattle.tp_law_device.proofs.Wires.{HasShape, has_shape}

@@ -1,20 +1,7 @@
 -- The form of an area: how the field of its base says it, and which entries are read of its rows.
 use Rattle.std.proofs.Common.{◌≡◌, ℕ, ◌/◌, ◌%◌, ◌^◌, ◌<◌, Bool, true, false, cond, List, [], ◌∷◌, refl, ap, ◌∙◌, arith, Some, None, Ok}
 use Rattle.std.specs.Prelude.{◌==◌}
-use Rattle.std.specs.List.{list_all}
-use Rattle.std.proofs.lemmas.Bool.{and_parts, cond-true, eqb-true}
-use Rattle.tp_model.specs.declared.entry.Entry.{Entry}
-use Rattle.tp_model.specs.declared.form.Form.{Form}
-use Rattle.tp_model.specs.declared.form.Form.TheVariants.{Plain, Turns}
-use Rattle.tp_model.specs.declared.limits.TheConstants.{NUMBER_LIMIT, PLAIN_FORM, TURNS_FORM}
-use Rattle.tp_model.specs.Topology.{Topology}
-use Rattle.tp_model.specs.EntryBytes.{AreOf, entry_at, entry_bytes, is_of, is_spelt}
-use Rattle.tp_model.specs.CutImage.{base_number, form_number, only_if, or_damaged}
-use Rattle.tp_model.specs.Opening.{form_at, form_of, front_in, has_front}
-use Rattle.tp_model.specs.Replay.{row_entry}
-use Rattle.tp_model.specs.Spelling.{IsGroup}
-use Rattle.tp_law_machine.specs.ReadBack.{AreSpellings}
-use Rattle.tp_law_machine.proofs.EntryLaws.{entry_at-entry_bytes}
+use Rattle.tp_law_device.proofs.Lower.{list_all, and_parts, cond-true, eqb-true, Entry, Form, Plain, Turns, NUMBER_LIMIT, PLAIN_FORM, TURNS_FORM, Topology, AreOf, entry_at, entry_bytes, is_of, is_spelt, base_number, form_number, only_if, or_damaged, form_at, form_of, front_in, has_front, row_entry, IsGroup, AreSpellings, entry_at-entry_bytes}
 use Rattle.tp_law_device.proofs.Faults.{or_damaged_ok, tested}
 
 -- ## The field of the base

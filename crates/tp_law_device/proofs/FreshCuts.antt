@@ -1,27 +1,7 @@
 -- The cut of a network before its first entry is read back.
 use Rattle.std.proofs.Common.{◌≡◌, ℕ, zero, suc, ◌+◌, ◌-◌, ◌*◌, ◌%◌, Bool, true, false, cond, List, [], ◌∷◌, length, refl, sym, ap, subst, ◌∙◌, arith, Option, Some, None, slice_get}
 use Rattle.std.specs.Prelude.{◌==◌, ◌&&◌, replicate}
-use Rattle.std.specs.List.{list_all, AllByRecursion}
-use Rattle.std.specs.Option.{option_map}
-use Rattle.std.proofs.lemmas.Bool.{and_parts, eqb-true, not_from_false}
-use Rattle.std.proofs.lemmas.List.{length-replicate}
-use Rattle.tp_model.specs.declared.link.Token.{Token}
-use Rattle.tp_model.specs.declared.wire.WireEnd.{WireEnd}
-use Rattle.tp_model.specs.Word.{bit}
-use Rattle.tp_model.specs.NodeState.{NodeState}
-use Rattle.tp_model.specs.EndBytes.{is_idle_out, is_idle_in}
-use Rattle.tp_model.specs.Image.{page_count, node_of, has_idle_links}
-use Rattle.tp_model.specs.Network.{Network, Own, OfNode, OfHost, own, back, on_line}
-use Rattle.tp_model.specs.Sound.{datas, acks, owner, is_pending, waits_at, holds_at, end_holds}
-use Rattle.tp_model.specs.Node.{t414_ends}
-use Rattle.tp_model.specs.Topology.{Topology, line_count}
-use Rattle.tp_model.specs.Flight.{is_in_one_place}
-use Rattle.tp_model.specs.CutImage.{is_port_of}
-use Rattle.tp_model.specs.Format.{fresh_node, fresh_nodes, fresh_port}
-use Rattle.tp_law_machine.proofs.Images.{image-node_of}
-use Rattle.tp_law_network.proofs.Partial.{bind_some}
-use Rattle.tp_model.specs.Spelling.{are_lines}
-use Rattle.tp_law_machine.proofs.Idle.{none_waits, none_holds}
+use Rattle.tp_law_device.proofs.Lower.{list_all, AllByRecursion, option_map, and_parts, eqb-true, not_from_false, length-replicate, Token, WireEnd, bit, NodeState, is_idle_out, is_idle_in, page_count, node_of, has_idle_links, Network, Own, OfNode, OfHost, own, back, on_line, datas, acks, owner, is_pending, waits_at, holds_at, end_holds, t414_ends, Topology, line_count, is_in_one_place, is_port_of, fresh_node, fresh_nodes, fresh_port, image-node_of, bind_some, are_lines, none_waits, none_holds}
 use Rattle.tp_law_device.proofs.SpeltCuts.{IsReadBack, pages_of, ReadsBack}
 use Rattle.tp_law_device.proofs.Faults.{tested}
 

@@ -1,18 +1,7 @@
 -- A head that was written is read back.
 use Rattle.std.proofs.Common.{◌≡◌, ℕ, zero, suc, ◌+◌, ◌-◌, ◌*◌, ◌^◌, ◌<◌, ◌≤◌, true, List, [], ◌∷◌, ◌++◌, length, take, drop, get_or, refl, sym, ap, subst, ◌∙◌, arith, append_assoc, length-append, Some, Ok}
 use Rattle.std.specs.Prelude.{nat_le, map, flat_map}
-use Rattle.std.specs.List.{list_all}
-use Rattle.std.proofs.lemmas.Bool.{and_parts, leb-true}
-use Rattle.std.proofs.lemmas.List.{take-take, take_at, drop_at, drop-drop, length-map, length-replicate}
-use Rattle.std.proofs.lemmas.Nat.{from_le_bytes-to_le_bytes_2, from_le_bytes-to_le_bytes_8}
-use Rattle.tp_model.specs.declared.areas.TwoAreas.{TwoAreas}
-use Rattle.tp_model.specs.declared.head.HeadVersion.{HeadVersion}
-use Rattle.tp_model.specs.declared.head.HeadVersion.TheVariants.{Narrow, Wide}
-use Rattle.tp_model.specs.declared.limits.TheConstants.{MIN_PAGES, MAX_PAGES}
-use Rattle.tp_model.specs.Bytes.{u16_bytes, u64_bytes, u8_at, u16_at, u64_at, zeros, padded}
-use Rattle.tp_model.specs.Topology.{Topology, node_count, is_page_count, is_topology}
-use Rattle.tp_model.specs.Device.{areas_end, fits_device}
-use Rattle.tp_model.specs.Head.{version_byte, version_of, head_length, head_nodes, keeps_limits, magic, end_number, end_of_number, numbers_bytes, numbers_at, ends_place, head_bytes, all_wires, u16s_at, head_at, head_of}
+use Rattle.tp_law_device.proofs.Lower.{list_all, and_parts, leb-true, take-take, take_at, drop_at, drop-drop, length-map, length-replicate, from_le_bytes-to_le_bytes_2, from_le_bytes-to_le_bytes_8, TwoAreas, HeadVersion, Narrow, Wide, MIN_PAGES, MAX_PAGES, u16_bytes, u64_bytes, u8_at, u16_at, u64_at, zeros, padded, Topology, node_count, is_page_count, is_topology, areas_end, fits_device, version_byte, version_of, head_length, head_nodes, keeps_limits, magic, end_number, end_of_number, numbers_bytes, numbers_at, ends_place, head_bytes, all_wires, u16s_at, head_at, head_of}
 use Rattle.tp_law_device.proofs.Fronts.{SameFront, front_shorter, front_get}
 use Rattle.tp_law_device.proofs.Heads.{number_width, head_long, ends_fit, keeps_nodes, head_at_same, head_from}
 use Rattle.tp_law_device.proofs.Wires.{HasShape, has_shape, length-links, links_back, numbers_low, wires_back}

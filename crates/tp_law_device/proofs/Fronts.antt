@@ -1,9 +1,6 @@
 -- Lists that begin with equal elements, and what is read there.
 use Rattle.std.proofs.Common.{◌≡◌, ℕ, zero, suc, ◌+◌, ◌-◌, ◌<◌, ◌≤◌, List, length, take, drop, get_or, sym, ap, ◌∙◌, arith, length-take, length-drop}
-use Rattle.std.specs.Int.{Width, w16, w32, w64, byte_len, byte_worth, sum_through, from_le_bytes}
-use Rattle.std.proofs.lemmas.List.{take-take, drop-take, get_or-take, get_or-drop}
-use Rattle.std.proofs.lemmas.Grind.{same_number_lists}
-use Rattle.tp_model.specs.Bytes.{u16_at, u32_at, u64_at}
+use Rattle.tp_law_device.proofs.Lower.{Width, w16, w32, w64, byte_len, byte_worth, sum_through, from_le_bytes, take-take, drop-take, get_or-take, get_or-drop, same_number_lists, u16_at, u32_at, u64_at}
 
 -- the first n elements are equal
 pub record SameFront (n : ℕ) (xs ys : List ℕ) : Type 0 where

@@ -1,26 +1,8 @@
 -- The image of a node that recorded stays until the trim, and is that of the cut; its pieces are the image.
 use Rattle.std.proofs.Common.{◌≡◌, ◌≢◌, ℕ, zero, suc, ◌+◌, ◌*◌, ◌/◌, ◌%◌, ◌<◌, false, List, [], ◌∷◌, length, take, drop, get_or, refl, sym, ap, subst, ◌∙◌, arith, Option, Some, None, slice_get, length-take, length-drop, length-append, get_or-set_other}
-use Rattle.std.specs.Prelude.{nat_le, ◌==◌, ◌&&◌, is_some, length}
-use Rattle.std.specs.Option.{option_map}
-use Rattle.std.proofs.lemmas.Bool.{and_parts, eqb-true, true≢false}
-use Rattle.std.proofs.lemmas.List.{get_or-take, get_or-drop}
-use Rattle.tp_model.specs.Network.{Machine, on_line}
-use Rattle.tp_model.specs.Entries.{process, takes}
-use Rattle.tp_model.specs.Markers.{before}
-use Rattle.tp_model.specs.Snapshot.{MarkedNetwork, has_recorded, collected, with_count, closed_over}
-use Rattle.tp_model.specs.WholeCut.{WholeCut, all_some}
-use Rattle.tp_model.specs.Acts.{Act, Begin, Record, Journal, Close, Trim, happens}
-use Rattle.tp_model.specs.NodeState.{NodeState}
-use Rattle.tp_model.specs.declared.limits.TheConstants.{IMAGE_HEAD_BYTES, PAGE_BYTES, MIN_PAGES, MAX_PAGES}
-use Rattle.tp_model.specs.Image.{IsNode, image, image_head, page_count}
-use Rattle.tp_law_machine.proofs.Imaged.{rules_of}
-use Rattle.tp_law_machine.proofs.Images.{node_of-image}
+use Rattle.std.specs.Prelude.{nat_le, ◌==◌, ◌&&◌, is_some}
+use Rattle.tp_law_device.proofs.Lower.{option_map, and_parts, eqb-true, true≢false, get_or-take, get_or-drop, Machine, on_line, process, takes, before, MarkedNetwork, has_recorded, collected, with_count, closed_over, WholeCut, all_some, Act, Begin, Record, Journal, Close, Trim, happens, NodeState, IMAGE_HEAD_BYTES, PAGE_BYTES, MIN_PAGES, MAX_PAGES, IsNode, image, image_head, page_count, rules_of, node_of-image, is_trim, HasCut, map_some, slice_get-set_other, begin_parts, record_parts, close_parts, journal_parts, IsThere, IsFrozenAs}
 use Rattle.tp_law_device.proofs.SpeltCuts.{image_size}
-use Rattle.tp_model.specs.Runs.{is_trim, HasCut}
-use Rattle.tp_law_network.proofs.Partial.{map_some, slice_get-set_other}
-use Rattle.tp_law_network.proofs.Acts.{begin_parts, record_parts, close_parts, journal_parts}
-use Rattle.tp_model.specs.PiecesStand.{IsThere}
-use Rattle.tp_model.specs.FrozenAs.{IsFrozenAs}
 use Rattle.tp_law_device.proofs.TailRoom.{same_counts}
 use Rattle.tp_law_device.proofs.Pieces.{there_append}
 

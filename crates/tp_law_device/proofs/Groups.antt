@@ -1,21 +1,7 @@
 -- A group is written after its closed gate, and then its gate is opened.
 use Rattle.std.proofs.Common.{◌≡◌, ℕ, ◌+◌, ◌<◌, ◌≤◌, ◌⊎◌, inl, inr, true, false, not, List, [], ◌∷◌, length, get_or, refl, sym, ap, subst, ◌∙◌, arith, le_refl, Some, Ok}
-use Rattle.std.proofs.lemmas.Bool.{cases_Bool, eqb-true}
+use Rattle.tp_law_device.proofs.Lower.{cases_Bool, eqb-true, TwoAreas, Entry, GATE_OPEN, NodeState, Machine, EndsSeen, Held, with_more, ArePossible, gate_open, area_start, is_open, MayBe, written, rows_of, group_body, Opened, next_of, held_of, opening, numbered, can_add, spare_of, group_of, length-written, get_or-written_outside, get_or-written_inside, IsOut}
 use Rattle.std.proofs.lemmas.Option.{cond_some}
-use Rattle.tp_model.specs.declared.areas.TwoAreas.{TwoAreas}
-use Rattle.tp_model.specs.declared.entry.Entry.{Entry}
-use Rattle.tp_model.specs.declared.limits.TheConstants.{GATE_OPEN}
-use Rattle.tp_model.specs.NodeState.{NodeState}
-use Rattle.tp_model.specs.Network.{Machine}
-use Rattle.tp_model.specs.Sound.{EndsSeen}
-use Rattle.tp_model.specs.Areas.{Held, with_more, ArePossible, gate_open}
-use Rattle.tp_model.specs.Device.{area_start, is_open}
-use Rattle.tp_model.specs.Disk.{MayBe, written}
-use Rattle.tp_model.specs.Group.{rows_of, group_body}
-use Rattle.tp_model.specs.Opening.{Opened, next_of, held_of, opening}
-use Rattle.tp_model.specs.DeviceAreas.{numbered, can_add, spare_of, group_of}
-use Rattle.tp_law_network.proofs.Moments.{length-written, get_or-written_outside, get_or-written_inside}
-use Rattle.tp_law_network.proofs.SmallHolds.{IsOut}
 use Rattle.tp_law_device.proofs.Contents.{places, age_same}
 use Rattle.tp_law_device.proofs.Listings.{length-group_body}
 use Rattle.tp_law_device.proofs.AreaReads.{group_can}

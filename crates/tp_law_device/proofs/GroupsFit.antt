@@ -1,29 +1,8 @@
 -- Groups end inside their area, as long as the journal isn't full.
 use Rattle.std.proofs.Common.{◌≡◌, ℕ, zero, suc, ◌+◌, ◌-◌, ◌*◌, ◌<◌, ◌≤◌, Bool, true, false, cond, List, [], ◌∷◌, length, take, drop, refl, sym, ap, ◌∙◌, arith, length-append, Option, Some, None, Ok}
 use Rattle.std.specs.Prelude.{◌==◌, ◌&&◌, nat_le, bytes_eq}
-use Rattle.std.specs.List.{AllByRecursion}
-use Rattle.std.specs.Option.{option_map}
-use Rattle.std.proofs.lemmas.Bool.{and_parts, leb-true, lt-ltb}
-use Rattle.std.proofs.lemmas.List.{length_push}
+use Rattle.tp_law_device.proofs.Lower.{AllByRecursion, option_map, and_parts, leb-true, lt-ltb, length_push, Entry, GATE_OPEN, ENTRY_BYTES, GROUP_HEAD_BYTES, AREA_HEAD_BYTES, MAX_GROUP, NodeState, t414, t414_ends, Machine, next, EndsSeen, Topology, u16_at, rows_of, rows_at, rows_behind, rises, header, group_length, group_bytes, or_damaged, Listing, Replay, row_entry, group_rows_at, at_open_gate, listing, with_entry, is_number, after_row, after_rows, replay_from, cut_length, room, entry_room, area_start, content_of, IsGroup, groups_bytes, entries_in, Opened, base_of, groups_place, opening, verdict, has_room, map_some, cond_some}
 use Rattle.std.proofs.lemmas.Option.{cond_some as chosen}
-use Rattle.tp_model.specs.declared.entry.Entry.{Entry}
-use Rattle.tp_model.specs.declared.limits.TheConstants.{GATE_OPEN, ENTRY_BYTES, GROUP_HEAD_BYTES, AREA_HEAD_BYTES, MAX_GROUP}
-use Rattle.tp_model.specs.NodeState.{NodeState}
-use Rattle.tp_model.specs.Node.{t414, t414_ends}
-use Rattle.tp_model.specs.Network.{Machine}
-use Rattle.tp_model.specs.Entries.{next}
-use Rattle.tp_model.specs.Sound.{EndsSeen}
-use Rattle.tp_model.specs.Topology.{Topology}
-use Rattle.tp_model.specs.Bytes.{u16_at}
-use Rattle.tp_model.specs.Group.{rows_of, rows_at, rows_behind, rises, header, group_length, group_bytes}
-use Rattle.tp_model.specs.CutImage.{or_damaged}
-use Rattle.tp_model.specs.Replay.{Listing, Replay, row_entry, group_rows_at, at_open_gate, listing, with_entry, is_number, after_row, after_rows, replay_from}
-use Rattle.tp_model.specs.Journal.{cut_length, room, entry_room}
-use Rattle.tp_model.specs.Device.{area_start, content_of}
-use Rattle.tp_model.specs.Spelling.{IsGroup, groups_bytes, entries_in}
-use Rattle.tp_model.specs.Opening.{Opened, base_of, groups_place, opening, verdict}
-use Rattle.tp_model.specs.DeviceAreas.{has_room}
-use Rattle.tp_law_network.proofs.Partial.{map_some, cond_some}
 use Rattle.tp_law_device.proofs.Faults.{bind_ok, or_damaged_ok}
 use Rattle.tp_law_device.proofs.Listings.{rows_counted, length-group_bytes}
 use Rattle.tp_law_device.proofs.Replays.{entry_found}

@@ -1,19 +1,7 @@
 -- The device's head is read of its own bytes and of the device's length.
-use Rattle.std.proofs.Common.{◌≡◌, ℕ, zero, suc, ◌+◌, ◌*◌, ◌≤◌, true, inl, inr, cond, List, [], ◌∷◌, length, take, drop, refl, sym, ap, subst, ◌∙◌, arith, Option, Some, None, Ok, Err}
-use Rattle.std.specs.Prelude.{not, ◌&&◌, nat_le, bytes_eq, map}
-use Rattle.std.specs.List.{list_all}
-use Rattle.std.proofs.lemmas.Bool.{and_parts, and_from, cases_Bool, leb-true, le-leb, not-false}
-use Rattle.std.proofs.lemmas.Slice.Eq.{bytes_eq-Decides}
-use Rattle.tp_model.specs.declared.areas.TwoAreas.{TwoAreas}
-use Rattle.tp_model.specs.declared.head.HeadVersion.{HeadVersion}
-use Rattle.tp_model.specs.declared.head.HeadVersion.TheVariants.{Narrow, Wide}
-use Rattle.tp_model.specs.declared.limits.TheConstants.{NARROW_HEAD_BYTES, WIDE_HEAD_NODES, WIDE_HEAD_PAGES, MIN_PAGES, MAX_PAGES}
-use Rattle.tp_model.specs.declared.opening.OpenFault.TheVariants.{NotFormatted, Damaged}
-use Rattle.tp_model.specs.Bytes.{u8_at, u64_at}
-use Rattle.tp_model.specs.Topology.{Topology, node_count, line_count, is_page_count, is_topology}
-use Rattle.tp_model.specs.Journal.{is_roomy}
-use Rattle.tp_model.specs.Device.{areas_end, fits_device}
-use Rattle.tp_model.specs.Head.{Head, version_of, head_length, head_nodes, head_pages, keeps_limits, version_for, magic, end_of_number, numbers_at, ends_place, head_bytes, areas_of_length, all_wires, u16s_at, head_at, is_head, head_with, head_of}
+use Rattle.std.proofs.Common.{◌≡◌, ℕ, zero, suc, ◌+◌, ◌*◌, ◌≤◌, true, inl, inr, cond, List, [], ◌∷◌, length, take, drop, refl, sym, ap, subst, ◌∙◌, arith, Option, Some, None, Ok, Err, not}
+use Rattle.std.specs.Prelude.{◌&&◌, nat_le, bytes_eq, map}
+use Rattle.tp_law_device.proofs.Lower.{list_all, and_parts, and_from, cases_Bool, leb-true, le-leb, not-false, bytes_eq-Decides, TwoAreas, HeadVersion, Narrow, Wide, NARROW_HEAD_BYTES, WIDE_HEAD_NODES, WIDE_HEAD_PAGES, MIN_PAGES, MAX_PAGES, NotFormatted, Damaged, u8_at, u64_at, Topology, node_count, line_count, is_page_count, is_topology, is_roomy, areas_end, fits_device, Head, version_of, head_length, head_nodes, head_pages, keeps_limits, version_for, magic, end_of_number, numbers_at, ends_place, head_bytes, areas_of_length, all_wires, u16s_at, head_at, is_head, head_with, head_of}
 use Rattle.tp_law_device.proofs.Faults.{fault_or, or_fault}
 use Rattle.tp_law_device.proofs.Fronts.{SameFront, front_shorter, front_part, front_get, u16_front, u64_front}
 use Rattle.tp_law_device.proofs.Wires.{has_shape}

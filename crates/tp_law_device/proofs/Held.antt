@@ -1,49 +1,11 @@
 -- What the book of a run holds has an image, at each moment.
-use Rattle.std.proofs.Common.{◌≡◌, ℕ, ◌+◌, ◌-◌, true, not, List, [], ◌∷◌, ◌++◌, length, map, sym, ap, subst, ◌∙◌, arith, length-append, drop, Some, Ok}
-use Rattle.std.specs.Prelude.{nat_lt, nat_le, ◌<◌, ◌&&◌, ◌==◌}
-use Rattle.std.specs.List.{AllByRecursion, list_all}
-use Rattle.std.proofs.lemmas.Bool.{and_parts, eqb-true, ltb-true}
-use Rattle.std.proofs.lemmas.List.{length-map, map-append}
-use Rattle.tp_model.specs.declared.link.Token.TheVariants.{Data, Ack, Marker}
-use Rattle.tp_model.specs.declared.link.Received.{Received}
-use Rattle.tp_model.specs.declared.link.Received.TheVariants.{Nothing, JustData, JustAck, DataThenAck, AckThenData}
-use Rattle.tp_model.specs.declared.entry.Entry.{Entry}
-use Rattle.tp_model.specs.declared.entry.Entry.TheVariants.{Run as Ran, Take, HostIn, Confirm, Turn}
-use Rattle.tp_model.specs.declared.limits.TheConstants.{NUMBER_LIMIT, ENTRY_NODES, ENTRY_LINES, MAX_STEPS, MAX_PORTS}
-use Rattle.tp_model.specs.NodeState.{NodeState}
-use Rattle.tp_model.specs.Node.{t414, t414_ends}
-use Rattle.tp_model.specs.Network.{Network}
-use Rattle.tp_model.specs.Turn.{by_link}
-use Rattle.tp_model.specs.Entries.{process, next}
-use Rattle.tp_model.specs.Order.{after, post}
-use Rattle.tp_model.specs.Markers.{plain_network}
-use Rattle.tp_model.specs.Snapshot.{MarkedNetwork}
-use Rattle.tp_model.specs.WholeCut.{WholeCut, count_in, network_in}
-use Rattle.tp_model.specs.Acts.{Act, Begin, Record, Journal, Close, Trim, IsOpened}
-use Rattle.tp_model.specs.EntryBytes.{is_received, is_in_range, IsSpelt}
-use Rattle.tp_model.specs.Areas.{Held}
-use Rattle.tp_model.specs.Topology.{Topology, is_topology}
-use Rattle.tp_model.specs.Device.{area_start, content_of}
-use Rattle.tp_model.specs.Spelling.{entries_in, IsGroup, DeviceSpells}
-use Rattle.tp_model.specs.Opening.{Opened, held_of, opening}
-use Rattle.tp_model.specs.DeviceAreas.{device_areas}
-use Rattle.tp_model.specs.Runs.{World, Event, Acts, Copies, CopiesTail, Does, Breaks, Trims, Raises, Reads as ReadsMark, Reopens, grown, HasCut, Step, fresh}
-use Rattle.tp_law_machine.specs.NodeOfBytes.{IsNodeOfBytes}
-use Rattle.tp_law_machine.proofs.LinkLaws.{has_four_links, never_marks}
-use Rattle.tp_law_machine.proofs.Numbers.{AreBytes, are_bytes-take, are_bytes-drop}
-use Rattle.tp_law_machine.proofs.Partial.{all_append}
-use Rattle.tp_law_network.proofs.Choice.{length-pre-post, chosen_keeps}
-use Rattle.tp_law_network.proofs.Reorder.{after_last}
-use Rattle.tp_law_network.specs.Invariant.{CutInvariant}
-use Rattle.tp_law_network.proofs.Whole.{whole_holds}
-use Rattle.tp_law_network.proofs.Stays.{start_stays, entries_grow}
-use Rattle.tp_law_network.proofs.Happens.{happens_holds}
-use Rattle.tp_law_network.proofs.Invariant.{Inv}
+use Rattle.std.proofs.Common.{◌≡◌, ℕ, ◌+◌, ◌-◌, true, not, List, [], ◌∷◌, ◌++◌, length, sym, ap, subst, ◌∙◌, arith, length-append, drop, Some, Ok, ◌<◌}
+use Rattle.std.specs.Prelude.{map, nat_lt, nat_le, ◌&&◌, ◌==◌}
+use Rattle.tp_law_device.proofs.Lower.{AllByRecursion, list_all, and_parts, eqb-true, ltb-true, length-map, map-append, Data, Ack, Marker, Received, Nothing, JustData, JustAck, DataThenAck, AckThenData, Entry, Ran, Take, HostIn, Confirm, Turn, NUMBER_LIMIT, ENTRY_NODES, ENTRY_LINES, MAX_STEPS, MAX_PORTS, NodeState, t414, t414_ends, Network, by_link, process, next, after, post, plain_network, MarkedNetwork, WholeCut, count_in, network_in, Act, Begin, Record, Journal, Close, Trim, IsOpened, is_received, is_in_range, IsSpelt, Held, Topology, is_topology, area_start, content_of, entries_in, IsGroup, DeviceSpells, Opened, held_of, opening, device_areas, World, Event, Acts, Copies, CopiesTail, Does, Breaks, Trims, Raises, ReadsMark, Reopens, grown, HasCut, Step, fresh, IsNodeOfBytes, has_four_links, never_marks, AreBytes, are_bytes-take, are_bytes-drop, all_append, length-pre-post, chosen_keeps, after_last, CutInvariant, whole_holds, start_stays, entries_grow, happens_holds, Inv, TakesByte, HasByte, ActKeeps, IsKept}
 use Rattle.tp_law_device.proofs.AreaReads.{area_parts}
 use Rattle.tp_law_device.proofs.ReadAreas.{opens_stand}
 use Rattle.tp_law_device.proofs.Opens.{reads_of, found_in}
 use Rattle.tp_law_device.proofs.ReadNodes.{read_of_bytes}
-use Rattle.tp_model.specs.KeptRun.{TakesByte, HasByte, ActKeeps, IsKept}
 use Rattle.tp_law_device.specs.CutSpelt.{CutSpelt}
 use Rattle.tp_law_device.proofs.Kept.{cut_keeps, keeps_after}
 use Rattle.tp_law_device.proofs.Again.{cut_spelt}

@@ -1,9 +1,5 @@
 -- The device keeps what crashes need.
-use Rattle.tp_model.specs.NodeState.{NodeState}
-use Rattle.tp_model.specs.Network.{Machine}
-use Rattle.tp_model.specs.Sound.{EndsSeen}
-use Rattle.tp_model.specs.Areas.{AreasHold}
-use Rattle.tp_model.specs.DeviceAreas.{areas_of}
+use Rattle.tp_law_device.proofs.Lower.{NodeState, Machine, EndsSeen, AreasHold, areas_of}
 use Rattle.tp_law_device.proofs.Spare.{spare_holds, spare_has_room}
 use Rattle.tp_law_device.proofs.Groups.{body_holds, body_has_room, gate_holds, added_holds}
 use Rattle.tp_law_device.proofs.Switches.{clear_holds, clear_has_room, switch_holds, switched_holds, switch_has_room}

@@ -1,32 +1,6 @@
 -- The bytes of groups stay inside an area.
 use Rattle.std.proofs.Common.{◌≡◌, ℕ, ◌+◌, ◌-◌, ◌*◌, ◌≤◌, inl, inr, true, List, [], ◌∷◌, ◌++◌, length, refl, sym, ap, subst, ◌∙◌, arith, length-append, Ok}
-use Rattle.std.specs.List.{AllByRecursion}
-use Rattle.std.proofs.lemmas.Bool.{leb-true}
-use Rattle.std.proofs.lemmas.List.{length-map}
-use Rattle.tp_model.specs.declared.entry.Entry.{Entry}
-use Rattle.tp_model.specs.NodeState.{NodeState}
-use Rattle.tp_model.specs.Node.{t414, t414_ends}
-use Rattle.tp_model.specs.Network.{Network}
-use Rattle.tp_model.specs.Entries.{process}
-use Rattle.tp_model.specs.Order.{post}
-use Rattle.tp_model.specs.EntryBytes.{IsSpelt}
-use Rattle.tp_model.specs.Group.{rows_of, group_bytes}
-use Rattle.tp_model.specs.Journal.{entry_room, room, is_roomy}
-use Rattle.tp_model.specs.Topology.{Topology}
-use Rattle.tp_model.specs.Areas.{Held}
-use Rattle.tp_model.specs.CopySpelt.{CopySpelt}
-use Rattle.tp_model.specs.PiecesStand.{IsSized}
-use Rattle.tp_model.specs.Spelling.{groups_bytes, entries_in, IsGroup}
-use Rattle.tp_model.specs.Opening.{Opened, held_of, groups_place, opening, verdict}
-use Rattle.tp_model.specs.DeviceAreas.{device_areas, has_room}
-use Rattle.tp_model.specs.WriteOrder.{Resting}
-use Rattle.tp_model.specs.WholeCut.{WholeCut, count_in}
-use Rattle.tp_model.specs.Runs.{World, Event, HasCut, BeginsFormatted}
-use Rattle.tp_model.specs.KeptRun.{KeptRun}
-use Rattle.tp_law_machine.proofs.LinkLaws.{has_four_links}
-use Rattle.tp_law_machine.proofs.Numbers.{AreBytes}
-use Rattle.tp_law_network.proofs.Invariant.{At}
-use Rattle.tp_law_network.proofs.Prefix.{held_of as kept_of}
+use Rattle.tp_law_device.proofs.Lower.{AllByRecursion, leb-true, length-map, Entry, NodeState, t414, t414_ends, Network, process, post, IsSpelt, rows_of, group_bytes, entry_room, room, is_roomy, Topology, Held, CopySpelt, IsSized, groups_bytes, entries_in, IsGroup, Opened, held_of, groups_place, opening, verdict, device_areas, has_room, Resting, WholeCut, count_in, World, Event, HasCut, BeginsFormatted, KeptRun, has_four_links, AreBytes, At, kept_of}
 use Rattle.tp_law_device.proofs.Listings.{length-group_bytes}
 use Rattle.tp_law_device.proofs.GroupsFit.{verdict_has_room}
 use Rattle.tp_law_device.proofs.Opens.{held_from}

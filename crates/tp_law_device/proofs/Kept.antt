@@ -1,27 +1,7 @@
 -- What a cut has that opening reads, each entry keeps.
-use Rattle.std.proofs.Common.{◌≡◌, ℕ, ◌+◌, ◌*◌, ◌≤◌, List, [], ◌∷◌, length, ap, subst, ◌∙◌, arith, Some}
-use Rattle.std.specs.Prelude.{true}
-use Rattle.std.specs.List.{AllByRecursion}
-use Rattle.tp_model.specs.declared.entry.Entry.{Entry}
-use Rattle.tp_model.specs.declared.limits.TheConstants.{MAX_NODES, MAX_PORTS}
-use Rattle.tp_model.specs.NodeState.{NodeState}
-use Rattle.tp_model.specs.Node.{t414, t414_ends}
-use Rattle.tp_model.specs.Network.{Network, on_line}
-use Rattle.tp_model.specs.Entries.{next}
-use Rattle.tp_model.specs.Sound.{Sound}
-use Rattle.tp_model.specs.Markers.{markers}
-use Rattle.tp_model.specs.Order.{after}
-use Rattle.tp_model.specs.Topology.{Topology, is_topology}
-use Rattle.tp_model.specs.CutImage.{is_port_of}
-use Rattle.tp_model.specs.Spelling.{IsCut}
-use Rattle.tp_model.specs.KeptRun.{HasByte}
-use Rattle.tp_law_machine.specs.NodeOfBytes.{IsNodeOfBytes}
-use Rattle.tp_law_machine.proofs.LinkLaws.{has_four_links, keeps_flight, never_marks}
-use Rattle.tp_law_machine.proofs.Partial.{all_at}
-use Rattle.tp_law_network.proofs.Local.{step_of, next_shape}
-use Rattle.tp_law_network.proofs.Partial.{bind_some}
-use Rattle.tp_law_network.proofs.Plain.{step_markers}
-use Rattle.tp_law_network.proofs.Sound.{sound_kept}
+use Rattle.std.proofs.Common.{◌≡◌, ℕ, ◌+◌, ◌*◌, ◌≤◌, List, [], ◌∷◌, length, ap, subst, ◌∙◌, arith, Some, true}
+use Rattle.tp_law_device.proofs.Lower.{AllByRecursion, Entry, MAX_NODES, MAX_PORTS, NodeState, t414, t414_ends, Network, on_line, next, Sound, markers, after, Topology, is_topology, is_port_of, IsCut, HasByte, IsNodeOfBytes, has_four_links, keeps_flight, never_marks, all_at, next_shape, bind_some, step_markers, sound_kept}
+use Rattle.tp_law_network.proofs.Local.{step_of}
 use Rattle.tp_law_device.proofs.SpeltCuts.{pages_of}
 use Rattle.tp_law_device.proofs.Wires.{has_shape}
 use Rattle.tp_law_device.proofs.UnmarkedLines.{lines_unmarked}

@@ -1,18 +1,6 @@
 -- What each moment of a run keeps: its book's kept cut has an image, its entries are spelt, and they find room.
 use Rattle.std.proofs.Common.{ℕ, List, [], ◌∷◌, length, sym, ap, subst, refl, arith, inl}
-use Rattle.tp_model.specs.NodeState.{NodeState}
-use Rattle.tp_model.specs.Node.{t414, t414_ends}
-use Rattle.tp_model.specs.Network.{Network}
-use Rattle.tp_model.specs.Acts.{IsOpened}
-use Rattle.tp_model.specs.Snapshot.{MarkedNetwork}
-use Rattle.tp_model.specs.TailRoom.{HasTailRoom}
-use Rattle.tp_model.specs.DeviceAreas.{device_areas}
-use Rattle.tp_model.specs.Runs.{World, Event, fresh, BeginsFormatted}
-use Rattle.tp_model.specs.KeptRun.{KeptRun}
-use Rattle.tp_law_machine.proofs.LinkLaws.{has_four_links, never_marks}
-use Rattle.tp_law_machine.proofs.Numbers.{AreBytes}
-use Rattle.tp_law_network.proofs.Invariant.{Inv}
-use Rattle.tp_law_network.proofs.Runs.{step_keeps, formatted_holds}
+use Rattle.tp_law_device.proofs.Lower.{NodeState, t414, t414_ends, Network, IsOpened, MarkedNetwork, HasTailRoom, device_areas, World, Event, fresh, BeginsFormatted, KeptRun, has_four_links, never_marks, AreBytes, Inv, step_keeps, formatted_holds}
 use Rattle.tp_law_device.proofs.Holds.{areas_keep}
 use Rattle.tp_law_device.proofs.Held.{HeldSpelt, held_by, held_read, step_spelt}
 use Rattle.tp_law_device.proofs.TailRoom.{tail_room_opened}

@@ -1,3 +1,4 @@
+pub mod Lower
 pub mod ActRuns
 pub mod Again
 pub mod Along

@@ -1,29 +1,9 @@
 -- A network's nodes stay of bytes, and as long, whatever entries follow.
 use Rattle.std.proofs.Common.{◌≡◌, ℕ, zero, suc, ◌+◌, ◌/◌, List, [], ◌∷◌, ◌++◌, length, set, refl, sym, ap, subst, ◌∙◌, Option, Some, None, slice_get}
 use Rattle.std.specs.Prelude.{nat_lt, nat_le, ◌&&◌}
-use Rattle.std.specs.Option.{option_map}
-use Rattle.std.specs.List.{AllByRecursion}
-use Rattle.tp_model.specs.declared.link.Token.{Token}
-use Rattle.tp_model.specs.declared.link.Token.TheVariants.{Data, Ack, Marker}
-use Rattle.tp_model.specs.declared.wire.WireEnd.{WireEnd}
-use Rattle.tp_model.specs.declared.wire.WireEnd.TheVariants.{Link, Port as AtPort}
-use Rattle.tp_model.specs.declared.link.Received.{Received}
-use Rattle.tp_model.specs.declared.link.Received.TheVariants.{Nothing, JustData, JustAck, DataThenAck, AckThenData}
-use Rattle.tp_model.specs.declared.entry.Entry.{Entry}
-use Rattle.tp_model.specs.declared.entry.Entry.TheVariants.{Run, Take, HostIn, Confirm, Turn}
-use Rattle.tp_model.specs.declared.limits.TheConstants.{MAX_STEPS, PAGE_BYTES}
-use Rattle.tp_model.specs.NodeState.{NodeState}
-use Rattle.tp_model.specs.Node.{t414, took}
-use Rattle.tp_model.specs.Image.{page_count}
-use Rattle.tp_model.specs.Network.{steps, Port, Network, Own, OfNode, OfHost, own, put, receiver, has_wire, sent}
-use Rattle.tp_model.specs.Turn.{by_link, took_all}
-use Rattle.tp_model.specs.Entries.{process, of_node, of_port, receives, port_took, handed_in, confirmed, does, next}
-use Rattle.tp_model.specs.KeptRun.{TakesByte, HasByte}
-use Rattle.tp_law_machine.specs.NodeOfBytes.{CarriesByte, IsNodeOfBytes}
-use Rattle.tp_law_machine.proofs.Partial.{all_at, all_set}
-use Rattle.tp_law_machine.proofs.Nodes.{node_steps, node_took, length-node_steps, length-node_took}
-use Rattle.tp_law_network.proofs.Local.{step_of, own_node, own-lines, port_step, turn_step}
-use Rattle.tp_law_network.proofs.Partial.{bind_some, map_some, cond_some}
+use Rattle.tp_law_device.proofs.Lower.{option_map, AllByRecursion, Token, Data, Ack, Marker, WireEnd, Link, AtPort, Received, Nothing, JustData, JustAck, DataThenAck, AckThenData, Entry, Take, HostIn, Confirm, Turn, MAX_STEPS, PAGE_BYTES, NodeState, t414, took, page_count, steps, Port, Network, Own, OfNode, OfHost, own, put, receiver, has_wire, sent, by_link, took_all, process, of_node, of_port, receives, port_took, handed_in, confirmed, does, next, TakesByte, HasByte, CarriesByte, IsNodeOfBytes, all_at, all_set, node_steps, node_took, length-node_steps, length-node_took, own_node, own-lines, port_step, turn_step, bind_some, map_some, cond_some}
+use Rattle.tp_model.specs.declared.entry.Entry.TheVariants.{Run}
+use Rattle.tp_law_network.proofs.Local.{step_of}
 use Rattle.tp_law_device.proofs.SpeltCuts.{pages_of}
 
 -- what a take carries

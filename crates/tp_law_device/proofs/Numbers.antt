@@ -1,17 +1,7 @@
 -- The numbers of a tail.
-use Rattle.std.proofs.Common.{◌≡◌, ℕ, ◌+◌, Bool, not, List, length, map, sym, ap, ◌∙◌}
-use Rattle.std.specs.Prelude.{nat_lt, length}
-use Rattle.tp_model.specs.declared.entry.Entry.{Entry}
-use Rattle.tp_model.specs.NodeState.{NodeState}
-use Rattle.tp_model.specs.Network.{Network}
-use Rattle.std.proofs.lemmas.List.{length-map}
-use Rattle.tp_model.specs.Entries.{process}
-use Rattle.tp_model.specs.Order.{pre, post}
-use Rattle.tp_model.specs.Numbers.{AreNumbered}
-use Rattle.tp_model.specs.WholeCut.{WholeCut, count_in}
-use Rattle.tp_law_network.proofs.Choice.{chosen-map}
-use Rattle.tp_law_network.proofs.Numbers.{numbered_outside}
-use Rattle.tp_model.specs.CutTail.{tail_of}
+use Rattle.std.proofs.Common.{◌≡◌, ℕ, ◌+◌, Bool, not, List, length, sym, ap, ◌∙◌}
+use Rattle.std.specs.Prelude.{map, nat_lt}
+use Rattle.tp_law_device.proofs.Lower.{Entry, NodeState, Network, length-map, process, pre, post, AreNumbered, WholeCut, count_in, chosen-map, numbered_outside, tail_of}
 
 -- The numbers of a tail are numbers after the cut.
 pub tail_numbered : (start : Network NodeState) (cut : WholeCut) (kept : List (Entry × ℕ)) (base : ℕ) → AreNumbered 0 base (map (λ (e : Entry × ℕ). e.1) kept)

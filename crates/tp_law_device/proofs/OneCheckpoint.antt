@@ -1,22 +1,7 @@
 -- The computed checkpoint: its run, and what the device opens to.
-use Rattle.std.proofs.Common.{◌≡◌, ℕ, ◌+◌, List, [], ◌∷◌, ◌++◌, map, refl, sym, ap, subst, ◌∙◌, arith, le_refl, Some, Ok}
-use Rattle.std.specs.Prelude.{max}
-use Rattle.tp_model.specs.declared.form.Form.TheVariants.{Turns}
-use Rattle.tp_model.specs.NodeState.{NodeState}
-use Rattle.tp_model.specs.Node.{t414}
-use Rattle.tp_model.specs.Image.{image}
-use Rattle.tp_model.specs.Network.{Network}
-use Rattle.tp_model.specs.Order.{after}
-use Rattle.tp_model.specs.Areas.{Held, gate_open}
-use Rattle.tp_model.specs.Disk.{Write, Sync}
-use Rattle.tp_model.specs.Opening.{Opened, held_of, verdict}
-use Rattle.tp_model.specs.DeviceAreas.{device_areas}
-use Rattle.tp_model.specs.WriteOrder.{Resting, Body, Ready, Gate, add_body, body_done, add_gate, gate_done}
-use Rattle.tp_model.specs.Runs.{World, Event, Acts, Copies, Does, Raises, Reads, BeginsFormatted}
-use Rattle.tp_model.specs.KeptRun.{KeptRun}
-use Rattle.tp_law_machine.specs.OneNode.{one_node, one_before}
-use Rattle.tp_law_machine.specs.Transfers.{sending_node, awaits}
-use Rattle.tp_law_network.specs.Planned.{moved_on}
+use Rattle.std.proofs.Common.{◌≡◌, ℕ, ◌+◌, List, [], ◌∷◌, ◌++◌, refl, sym, ap, subst, ◌∙◌, arith, le_refl, Some, Ok}
+use Rattle.std.specs.Prelude.{map, max}
+use Rattle.tp_law_device.proofs.Lower.{Turns, NodeState, t414, image, Network, after, Held, gate_open, Write, Sync, Opened, held_of, verdict, device_areas, Resting, Body, Ready, Gate, add_body, body_done, add_gate, gate_done, World, Event, Acts, Copies, Does, Raises, Reads, BeginsFormatted, KeptRun, one_node, one_before, sending_node, awaits, moved_on}
 use Rattle.tp_law_device.specs.Checkpoints.{Switches}
 use Rattle.tp_law_device.specs.FormattedWorld.{formatted_world}
 use Rattle.tp_law_device.proofs.Formatted.{formatted_starts}

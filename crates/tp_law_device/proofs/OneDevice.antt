@@ -1,36 +1,7 @@
 -- The device of the computed checkpoint, as it is formatted and with a group of two entries.
 use Rattle.std.proofs.Common.{◌≡◌, ℕ, ◌+◌, ◌-◌, true, false, List, [], ◌∷◌, length, refl, arith, Some, Ok}
 use Rattle.std.specs.Prelude.{nat_lt}
-use Rattle.std.specs.List.{list_all}
-use Rattle.std.proofs.lemmas.Bool.{and_parts, ltb-true}
-use Rattle.tp_model.specs.declared.form.Form.TheVariants.{Turns}
-use Rattle.tp_model.specs.declared.head.HeadVersion.TheVariants.{Narrow}
-use Rattle.tp_model.specs.declared.limits.TheConstants.{AREA_HEAD_BYTES}
-use Rattle.tp_model.specs.Step.{step_of}
-use Rattle.tp_model.specs.Node.{node_step, took, t414, t414_ends}
-use Rattle.tp_model.specs.Network.{steps, own, put, taken, pushed, sent}
-use Rattle.tp_model.specs.Entries.{process, takes, of_port, receives, does, next, acts}
-use Rattle.tp_model.specs.EntryBytes.{entry_at}
-use Rattle.tp_model.specs.Group.{rows_of, group_length, group_body, rows_at, rows_behind}
-use Rattle.tp_model.specs.Image.{image_head, image, node_at, is_node, node_of}
-use Rattle.tp_model.specs.EndBytes.{ends_at}
-use Rattle.tp_model.specs.CutImage.{cut_bytes, nodes_in, lines_in, ports_in}
-use Rattle.tp_model.specs.Topology.{is_topology, all_lead_back}
-use Rattle.tp_model.specs.Journal.{cut_length}
-use Rattle.tp_model.specs.Device.{area_start}
-use Rattle.tp_model.specs.Head.{head_bytes, u16s_at, head_at, head_of}
-use Rattle.tp_model.specs.Spelling.{front_bytes}
-use Rattle.tp_model.specs.Flight.{flights_in}
-use Rattle.tp_model.specs.Format.{fresh_nodes}
-use Rattle.tp_model.specs.Replay.{listing, after_rows}
-use Rattle.tp_model.specs.Areas.{gate_open}
-use Rattle.tp_model.specs.Disk.{written}
-use Rattle.tp_model.specs.Bytes.{zeros}
-use Rattle.tp_model.specs.Opening.{Opened, chosen_area, cut_in, area_in, opening}
-use Rattle.tp_model.specs.DeviceAreas.{numbered, group_of}
-use Rattle.tp_law_machine.specs.OneNode.{one_node, one_before}
-use Rattle.tp_law_machine.specs.Transfers.{sending_node}
-use Rattle.tp_law_machine.proofs.Numbers.{AreBytes}
+use Rattle.tp_law_device.proofs.Lower.{list_all, and_parts, ltb-true, Turns, Narrow, AREA_HEAD_BYTES, step_of, node_step, took, t414, t414_ends, steps, own, put, taken, pushed, sent, process, takes, of_port, receives, does, next, acts, entry_at, rows_of, group_length, group_body, rows_at, rows_behind, image_head, image, node_at, is_node, node_of, ends_at, cut_bytes, nodes_in, lines_in, ports_in, is_topology, all_lead_back, cut_length, area_start, head_bytes, u16s_at, head_at, head_of, front_bytes, flights_in, fresh_nodes, listing, after_rows, gate_open, written, zeros, Opened, chosen_area, cut_in, area_in, opening, numbered, group_of, one_node, one_before, sending_node, AreBytes}
 use Rattle.tp_law_device.specs.FormattedWorld.{WasFormatted}
 use Rattle.tp_law_device.specs.OneCheckpoint.{one_areas, first_content, one_device, inside, checkpoint_network}
 

@@ -1,19 +1,6 @@
 -- The acts of the computed checkpoint.
 use Rattle.std.proofs.Common.{◌≡◌, true, false, [], ◌∷◌, ◌++◌, refl, Some, None}
-use Rattle.tp_model.specs.declared.link.Token.TheVariants.{Ack}
-use Rattle.tp_model.specs.NodeState.{NodeState}
-use Rattle.tp_model.specs.Step.{step_of}
-use Rattle.tp_model.specs.Node.{node_step, took, t414}
-use Rattle.tp_model.specs.Network.{steps, own, put, taken, pushed, sent}
-use Rattle.tp_model.specs.Entries.{process, takes, of_port, receives, does, next, acts}
-use Rattle.tp_model.specs.Order.{after, chosen, made}
-use Rattle.tp_model.specs.Format.{fresh_port}
-use Rattle.tp_model.specs.Snapshot.{MarkedNetwork}
-use Rattle.tp_model.specs.WholeCut.{WholeCut, trimmed, whole}
-use Rattle.tp_model.specs.Acts.{happens, acted}
-use Rattle.tp_model.specs.Runs.{HasCut, copy_of, fresh}
-use Rattle.tp_law_machine.specs.OneNode.{one_before, one_after}
-use Rattle.tp_law_machine.specs.Transfers.{awaits}
+use Rattle.tp_law_device.proofs.Lower.{Ack, NodeState, step_of, node_step, took, t414, steps, own, put, taken, pushed, sent, process, takes, of_port, receives, does, next, acts, after, chosen, made, fresh_port, MarkedNetwork, WholeCut, trimmed, whole, happens, acted, HasCut, copy_of, fresh, one_before, one_after, awaits}
 use Rattle.tp_law_device.specs.OneCheckpoint.{inside, outside_checkpoint, before_snapshot, snapshot, checkpoint_network}
 
 -- the book before the snapshot, and when its cut is whole

@@ -1,27 +1,7 @@
 -- What opening answers of bytes that are equal to others where it reads them.
 use Rattle.std.proofs.Common.{◌≡◌, ℕ, zero, suc, ◌+◌, ◌-◌, ◌<◌, ◌≤◌, inl, inr, Bool, true, false, not, List, ◌∷◌, ◌++◌, length, drop, get_or, sym, ap, subst, ◌∙◌, arith, le_refl, Option, Some, Result, Ok}
 use Rattle.std.specs.Prelude.{◌==◌, map}
-use Rattle.std.specs.Option.{option_map}
-use Rattle.std.specs.Result.{result_ok}
-use Rattle.std.proofs.lemmas.Bool.{cases_Bool}
-use Rattle.std.proofs.lemmas.List.{get_or-drop}
-use Rattle.tp_model.specs.declared.areas.TwoAreas.{TwoAreas}
-use Rattle.tp_model.specs.declared.entry.Entry.{Entry}
-use Rattle.tp_model.specs.declared.opening.OpenFault.{OpenFault}
-use Rattle.tp_model.specs.declared.limits.TheConstants.{GATE_OPEN}
-use Rattle.tp_model.specs.Results.{◌>>=◌}
-use Rattle.tp_model.specs.NodeState.{NodeState}
-use Rattle.tp_model.specs.Network.{Machine, Network}
-use Rattle.tp_model.specs.Order.{after}
-use Rattle.tp_model.specs.Sound.{EndsSeen}
-use Rattle.tp_model.specs.Topology.{line_count}
-use Rattle.tp_model.specs.Areas.{Held, with_more}
-use Rattle.tp_model.specs.Device.{area_start, content_of, is_open, generation_of}
-use Rattle.tp_model.specs.Group.{rows_of, group_length, group_body}
-use Rattle.tp_model.specs.Head.{Head, head_of}
-use Rattle.tp_model.specs.Opening.{Opened, next_of, held_of, groups_place, chosen_area, area_in, opening}
-use Rattle.tp_model.specs.DeviceAreas.{numbered, can_add}
-use Rattle.tp_law_network.proofs.Partial.{map_some}
+use Rattle.tp_law_device.proofs.Lower.{option_map, result_ok, cases_Bool, get_or-drop, TwoAreas, Entry, OpenFault, GATE_OPEN, ◌>>=◌, NodeState, Machine, Network, after, EndsSeen, line_count, Held, with_more, area_start, content_of, is_open, generation_of, rows_of, group_length, group_body, Head, head_of, Opened, next_of, held_of, groups_place, chosen_area, area_in, opening, numbered, can_add, map_some}
 use Rattle.tp_law_device.proofs.Faults.{bind_ok, result_ok_some}
 use Rattle.tp_law_device.proofs.Fronts.{SameFront, front_from}
 use Rattle.tp_law_device.proofs.Heads.{HeadParts, head_parts, head_same, wires_count, Layout, layout_of}

@@ -1,17 +1,7 @@
 -- An area that spells a cut and its tail after its closed gate, at a higher generation, is what is held once that is open.
-use Rattle.std.proofs.Common.{◌≡◌, ℕ, ◌+◌, ◌-◌, ◌<◌, ◌≤◌, false, not, List, length, map, sym, ◌∙◌, arith, Some, Ok}
-use Rattle.std.proofs.lemmas.Grind.{same_number_lists}
-use Rattle.tp_model.specs.declared.entry.Entry.{Entry}
-use Rattle.tp_model.specs.declared.form.Form.{Form}
-use Rattle.tp_model.specs.NodeState.{NodeState}
-use Rattle.tp_model.specs.Node.{t414, t414_ends}
-use Rattle.tp_model.specs.Network.{Network}
-use Rattle.tp_model.specs.Areas.{Held}
-use Rattle.tp_model.specs.Disk.{written}
-use Rattle.tp_model.specs.Spelling.{entries_in, SpellsArea}
-use Rattle.tp_model.specs.Opening.{Opened, opening}
-use Rattle.tp_model.specs.DeviceAreas.{other_start, other_is_open, other_content, device_areas}
-use Rattle.tp_law_network.proofs.Moments.{length-written, get_or-written_inside}
+use Rattle.std.proofs.Common.{◌≡◌, ℕ, ◌+◌, ◌-◌, ◌<◌, ◌≤◌, false, not, List, length, sym, ◌∙◌, arith, Some, Ok}
+use Rattle.std.specs.Prelude.{map}
+use Rattle.tp_law_device.proofs.Lower.{same_number_lists, Entry, Form, NodeState, t414, t414_ends, Network, Held, written, entries_in, SpellsArea, Opened, opening, other_start, other_is_open, other_content, device_areas, length-written, get_or-written_inside}
 use Rattle.tp_law_device.proofs.Contents.{places, length-content_of, get_or-content_of}
 use Rattle.tp_law_device.proofs.Stand.{spelt_area}
 use Rattle.tp_law_device.proofs.Checkpoints.{other_spelt as spelt_other}

@@ -1,34 +1,11 @@
 -- Pieces at their places are a content.
-use Rattle.std.proofs.Common.{◌≡◌, ℕ, suc, ◌+◌, ◌-◌, ◌<◌, ◌≤◌, ◌⊎◌, inl, inr, true, List, [], ◌∷◌, ◌++◌, length, map, take, drop, get_or, refl, sym, ap, subst, ◌∙◌, arith, append_assoc, length-append, Some, slice_get}
-use Rattle.std.specs.Prelude.{sum_by, flat_map}
-use Rattle.std.specs.List.{AllByRecursion}
-use Rattle.std.proofs.lemmas.Bool.{cases_lt}
-use Rattle.std.proofs.lemmas.List.Sums.{sum_by-cons}
-use Rattle.std.proofs.lemmas.List.{get_or_append_left, get_or-append_right}
-use Rattle.tp_model.specs.declared.entry.Entry.{Entry}
-use Rattle.tp_model.specs.declared.limits.TheConstants.{GATE_CLOSED, NUMBER_LIMIT}
-use Rattle.tp_model.specs.Bytes.{u32_bytes, u64_bytes}
-use Rattle.tp_model.specs.declared.form.Form.TheVariants.{Turns}
-use Rattle.tp_model.specs.NodeState.{NodeState}
-use Rattle.tp_model.specs.Node.{t414, t414_ends}
-use Rattle.tp_model.specs.Image.{image, page_count}
-use Rattle.tp_model.specs.Numbers.{AreNumbered}
-use Rattle.tp_model.specs.Order.{after}
-use Rattle.tp_model.specs.Areas.{Held}
-use Rattle.tp_model.specs.Disk.{written}
-use Rattle.tp_model.specs.EntryBytes.{IsSpelt}
-use Rattle.tp_model.specs.Topology.{Topology, is_topology}
-use Rattle.tp_model.specs.Journal.{image_length, images_length, cut_length}
-use Rattle.tp_model.specs.CutImage.{base_number, line_bytes, port_bytes, cut_bytes}
-use Rattle.tp_model.specs.Spelling.{front_bytes, groups_bytes, entries_in, IsGroup, SpellsArea}
-use Rattle.tp_model.specs.Opening.{nodes_place, lines_place, ports_place, groups_place}
-use Rattle.tp_law_network.proofs.Moments.{get_or-written_outside, get_or-written_inside}
+use Rattle.std.proofs.Common.{◌≡◌, ℕ, suc, ◌+◌, ◌-◌, ◌<◌, ◌≤◌, ◌⊎◌, inl, inr, true, List, [], ◌∷◌, ◌++◌, length, take, drop, get_or, refl, sym, ap, subst, ◌∙◌, arith, append_assoc, length-append, Some, slice_get}
+use Rattle.std.specs.Prelude.{map, sum_by, flat_map}
+use Rattle.tp_law_device.proofs.Lower.{AllByRecursion, cases_lt, sum_by-cons, get_or_append_left, get_or-append_right, Entry, GATE_CLOSED, NUMBER_LIMIT, u32_bytes, u64_bytes, Turns, NodeState, t414, t414_ends, image, page_count, AreNumbered, after, Held, written, IsSpelt, Topology, is_topology, image_length, images_length, cut_length, base_number, line_bytes, port_bytes, cut_bytes, front_bytes, groups_bytes, entries_in, IsGroup, SpellsArea, nodes_place, lines_place, ports_place, groups_place, get_or-written_outside, get_or-written_inside, CopySpelt, IsThere, IsSized, PiecesStand}
 use Rattle.tp_law_device.proofs.Contents.{drop_there}
 use Rattle.tp_law_device.proofs.Forms.{are_of_turns}
 use Rattle.tp_law_device.proofs.Wires.{has_shape}
 use Rattle.tp_law_device.proofs.SpeltCuts.{IsReadBack, image_size, length-images, length-lines, length-ports, pages_of}
-use Rattle.tp_model.specs.CopySpelt.{CopySpelt}
-use Rattle.tp_model.specs.PiecesStand.{IsThere, IsSized, PiecesStand}
 use Rattle.tp_law_device.proofs.Content.{cut_back}
 
 -- ## Bytes that are there

@@ -1,11 +1,6 @@
 -- What a write leaves of an area's content: a piece is in it, or it is elsewhere.
 use Rattle.std.proofs.Common.{◌≡◌, ℕ, ◌+◌, ◌-◌, ◌<◌, ◌≤◌, ◌⊎◌, inl, inr, Bool, List, length, get_or, sym, ap, ◌∙◌, arith}
-use Rattle.std.proofs.lemmas.Bool.{cases_lt}
-use Rattle.std.proofs.lemmas.Grind.{same_number_lists}
-use Rattle.tp_model.specs.declared.areas.TwoAreas.{TwoAreas}
-use Rattle.tp_model.specs.Disk.{written}
-use Rattle.tp_model.specs.Device.{area_start, content_of}
-use Rattle.tp_law_network.proofs.Moments.{length-written, get_or-written_outside, get_or-written_inside}
+use Rattle.tp_law_device.proofs.Lower.{cases_lt, same_number_lists, TwoAreas, written, area_start, content_of, length-written, get_or-written_outside, get_or-written_inside}
 use Rattle.tp_law_device.proofs.Contents.{length-content_of, get_or-content_of, content_same}
 
 -- as of a group in the open area, or of a gate

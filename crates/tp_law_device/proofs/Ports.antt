@@ -1,18 +1,7 @@
 -- What a port of a cut has counted and holds, each entry keeps.
 use Rattle.std.proofs.Common.{◌≡◌, ℕ, ◌+◌, ◌-◌, ◌<◌, ◌≤◌, true, List, [], ◌∷◌, ◌++◌, length, drop, subst, arith, Some, slice_get, length-append, length-drop}
 use Rattle.std.specs.Prelude.{nat_lt, nat_le, ◌&&◌}
-use Rattle.std.proofs.lemmas.Bool.{ltb-true, leb-true, le-leb, and_parts, and_from}
-use Rattle.tp_model.specs.declared.link.Token.{Token}
-use Rattle.tp_model.specs.declared.link.Token.TheVariants.{Data, Ack, Marker}
-use Rattle.tp_model.specs.declared.entry.Entry.{Entry}
-use Rattle.tp_model.specs.declared.limits.TheConstants.{MAX_HELD}
-use Rattle.tp_model.specs.NodeState.{NodeState}
-use Rattle.tp_model.specs.Node.{t414}
-use Rattle.tp_model.specs.Network.{Port, Network}
-use Rattle.tp_model.specs.Entries.{port_took, handed_in, confirmed, acked, first_only, in_flight, next}
-use Rattle.tp_model.specs.CutImage.{is_port_of}
-use Rattle.tp_law_network.proofs.Partial.{cond_some}
-use Rattle.tp_law_network.proofs.PortsKeep.{ports_keep}
+use Rattle.tp_law_device.proofs.Lower.{ltb-true, leb-true, le-leb, and_parts, and_from, Token, Data, Ack, Marker, Entry, MAX_HELD, NodeState, t414, Port, Network, port_took, handed_in, confirmed, acked, first_only, in_flight, next, is_port_of, cond_some, ports_keep}
 
 -- A port has counted no more than `base` entries, and holds no more than it has room for.
 pub record PortFits (base : ℕ) (port : Port) : Type 0 where

@@ -1,31 +1,9 @@
 -- An entry that is possible has a spelling, if its data are bytes.
 use Rattle.std.proofs.Common.{◌≡◌, ℕ, ◌+◌, ◌<◌, ◌≤◌, inl, inr, true, List, [], ◌∷◌, length, refl, sym, ap, ◌∙◌, arith, Option, Some, None, slice_get}
 use Rattle.std.specs.Prelude.{nat_lt, nat_le, ◌&&◌, ◌==◌}
-use Rattle.std.specs.List.{AllByRecursion, list_all}
-use Rattle.std.specs.Option.{option_map}
-use Rattle.std.proofs.lemmas.Bool.{and_from, and_parts, eq-eqb, lt-ltb, leb-true, cases_lt}
-use Rattle.std.proofs.lemmas.Option.{slice_get_within}
-use Rattle.std.proofs.lemmas.List.{get_or_past}
-use Rattle.tp_model.specs.declared.link.Token.{Token}
-use Rattle.tp_model.specs.declared.link.Token.TheVariants.{Data, Ack, Marker}
-use Rattle.tp_model.specs.declared.wire.WireEnd.{WireEnd}
-use Rattle.tp_model.specs.declared.wire.WireEnd.TheVariants.{Link, Port as AtPort}
-use Rattle.tp_model.specs.declared.link.Received.{Received as Taken}
-use Rattle.tp_model.specs.declared.link.Received.TheVariants.{Nothing, JustData, JustAck, DataThenAck, AckThenData}
-use Rattle.tp_model.specs.declared.entry.Entry.{Entry}
-use Rattle.tp_model.specs.declared.entry.Entry.TheVariants.{Run, Take, HostIn, Confirm, Turn}
-use Rattle.tp_model.specs.declared.limits.TheConstants.{MAX_NODES, MAX_STEPS, MAX_PORTS, NUMBER_LIMIT, ENTRY_NODES, ENTRY_LINES}
-use Rattle.tp_model.specs.NodeState.{NodeState}
-use Rattle.tp_model.specs.Node.{t414, took}
-use Rattle.tp_model.specs.Network.{steps, Port, Network, Own, OfNode, OfHost, own, receiver}
-use Rattle.tp_model.specs.Turn.{by_link}
-use Rattle.tp_model.specs.Entries.{process, of_node, of_port, receives, port_took, handed_in, confirmed, does, next}
-use Rattle.tp_model.specs.EntryBytes.{is_received, is_token, is_in_range}
-use Rattle.tp_law_machine.proofs.LinkLaws.{never_marks}
-use Rattle.tp_law_network.proofs.Local.{turn_step, step_of, own_node, own_host, port_step}
-use Rattle.tp_law_network.proofs.Partial.{map_some, cond_some}
-use Rattle.tp_model.specs.KeptRun.{TakesByte, HasByte}
-use Rattle.tp_model.specs.Topology.{Topology}
+use Rattle.tp_law_device.proofs.Lower.{AllByRecursion, list_all, option_map, and_from, and_parts, eq-eqb, lt-ltb, leb-true, cases_lt, slice_get_within, get_or_past, Token, Data, Ack, Marker, WireEnd, Link, AtPort, Taken, Nothing, JustData, JustAck, DataThenAck, AckThenData, Entry, Take, HostIn, Confirm, Turn, MAX_NODES, MAX_STEPS, MAX_PORTS, NUMBER_LIMIT, ENTRY_NODES, ENTRY_LINES, NodeState, t414, took, steps, Port, Network, Own, OfNode, OfHost, own, receiver, by_link, process, of_node, of_port, receives, port_took, handed_in, confirmed, does, next, is_received, is_token, is_in_range, never_marks, turn_step, own_node, own_host, port_step, map_some, cond_some, TakesByte, HasByte, Topology}
+use Rattle.tp_model.specs.declared.entry.Entry.TheVariants.{Run}
+use Rattle.tp_law_network.proofs.Local.{step_of}
 use Rattle.tp_law_device.proofs.Kept.{CutKeeps}
 
 token_range : (line : ℕ) (token : Token) → HasByte (Take line token) → (token ≡ Marker → ⊥) → is_token token ≡ true

@@ -1,27 +1,7 @@
 -- A device that opens is spelt as opening says.
 use Rattle.std.proofs.Common.{◌≡◌, ℕ, ◌+◌, ◌-◌, ◌^◌, ◌<◌, ◌≤◌, ◌⊎◌, inl, inr, Bool, true, false, not, cond, List, ◌∷◌, ◌++◌, length, drop, refl, sym, ap, subst, ◌∙◌, arith, length-drop, Ok, Err}
 use Rattle.std.specs.Prelude.{◌==◌, nat_lt, map}
-use Rattle.std.proofs.lemmas.Bool.{and_parts, cases_Bool, ltb-true}
-use Rattle.tp_model.specs.declared.head.HeadVersion.{HeadVersion}
-use Rattle.tp_model.specs.declared.areas.TwoAreas.{TwoAreas}
-use Rattle.tp_model.specs.declared.entry.Entry.{Entry}
-use Rattle.tp_model.specs.Numbers.{AreNumbered}
-use Rattle.tp_model.specs.declared.opening.OpenFault.TheVariants.{Damaged}
-use Rattle.tp_model.specs.declared.limits.TheConstants.{NUMBER_LIMIT}
-use Rattle.tp_model.specs.Bytes.{u32_at}
-use Rattle.tp_model.specs.NodeState.{NodeState}
-use Rattle.tp_model.specs.Network.{Machine}
-use Rattle.tp_model.specs.Order.{after}
-use Rattle.tp_model.specs.Sound.{EndsSeen}
-use Rattle.tp_model.specs.Topology.{line_count}
-use Rattle.tp_model.specs.Journal.{cut_length}
-use Rattle.tp_model.specs.EntryBytes.{AreOf}
-use Rattle.tp_model.specs.Device.{area_start, content_of, generation_of}
-use Rattle.tp_model.specs.Head.{Head, head_at}
-use Rattle.tp_model.specs.Replay.{replay_from}
-use Rattle.tp_model.specs.Spelling.{front_bytes, entries_in, SpellsArea, DeviceSpells}
-use Rattle.tp_model.specs.Opening.{Opened, base_field, base_of, groups_place, choice, chosen_area, opening}
-use Rattle.tp_law_machine.proofs.Numbers.{AreBytes, are_bytes-take, are_bytes-drop}
+use Rattle.tp_law_device.proofs.Lower.{and_parts, cases_Bool, ltb-true, HeadVersion, TwoAreas, Entry, AreNumbered, Damaged, NUMBER_LIMIT, u32_at, NodeState, Machine, after, EndsSeen, line_count, cut_length, AreOf, area_start, content_of, generation_of, Head, head_at, replay_from, front_bytes, entries_in, SpellsArea, DeviceSpells, Opened, base_field, base_of, groups_place, choice, chosen_area, opening, AreBytes, are_bytes-take, are_bytes-drop}
 use Rattle.tp_law_device.proofs.Heads.{head_first, head_parts, wires_count}
 use Rattle.tp_law_device.proofs.Forms.{base_below}
 use Rattle.tp_law_device.proofs.Listings.{listing_ends}

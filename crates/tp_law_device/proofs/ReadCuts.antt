@@ -1,32 +1,7 @@
 -- What is read as a cut is spelt as one.
 use Rattle.std.proofs.Common.{◌≡◌, ℕ, zero, suc, ◌+◌, ◌*◌, ◌^◌, ◌<◌, ◌≤◌, Bool, true, false, cond, List, [], ◌∷◌, ◌++◌, length, take, drop, get_or, refl, sym, ap, subst, ◌∙◌, arith, append_assoc, length-drop, length-take, Option, Some, Ok}
 use Rattle.std.specs.Prelude.{◌==◌, ◌&&◌, nat_lt, flat_map, sum_by, bytes_eq}
-use Rattle.std.specs.List.{AllByRecursion}
-use Rattle.std.proofs.lemmas.Bool.{and_parts, and_from, eqb-true}
-use Rattle.std.proofs.lemmas.List.{take-append-drop, drop-drop}
-use Rattle.std.proofs.lemmas.List.Sums.{sum_by-cons}
-use Rattle.std.proofs.lemmas.Nat.{le_bytes_4, le_bytes_8}
-use Rattle.std.proofs.lemmas.Slice.Eq.{bytes_eq-Decides}
-use Rattle.tp_model.specs.declared.link.Token.{Token}
-use Rattle.tp_model.specs.declared.link.Token.TheVariants.{Data, Ack}
-use Rattle.tp_model.specs.declared.form.Form.{Form}
-use Rattle.tp_model.specs.declared.wire.WireEnd.{WireEnd}
-use Rattle.tp_model.specs.declared.limits.TheConstants.{NUMBER_LIMIT}
-use Rattle.tp_model.specs.Bytes.{u8_at, u32_at, u64_at, u32_bytes, u64_bytes}
-use Rattle.tp_model.specs.NodeState.{NodeState}
-use Rattle.tp_model.specs.Image.{page_count, image, node_of, IsNode}
-use Rattle.tp_model.specs.Network.{Port, Network}
-use Rattle.tp_model.specs.Sound.{EndsSeen}
-use Rattle.tp_model.specs.Topology.{Topology, line_count}
-use Rattle.tp_model.specs.Journal.{image_length, images_length, cut_length}
-use Rattle.tp_model.specs.Device.{generation_of}
-use Rattle.tp_model.specs.Flight.{flights_in}
-use Rattle.tp_model.specs.CutImage.{line_bytes, port_bytes, node_with, tokens_of, tokens_at, is_record, line_with, is_line_of, port_at, is_port_of, port_with, or_damaged, nodes_in, lines_in, ports_in, base_number, cut_bytes}
-use Rattle.tp_model.specs.Spelling.{has_record, are_lines, IsCut, front_bytes}
-use Rattle.tp_model.specs.Opening.{base_field, base_of, form_of, has_front, nodes_place, lines_place, ports_place, groups_place, network_of, cut_in}
-use Rattle.tp_law_machine.proofs.Numbers.{AreBytes, byte_below, are_bytes-take, are_bytes-drop}
-use Rattle.tp_law_machine.proofs.Images.{image-node_of, is_node-node_of}
-use Rattle.tp_law_network.proofs.InPlace.{flights_found}
+use Rattle.tp_law_device.proofs.Lower.{AllByRecursion, and_parts, and_from, eqb-true, take-append-drop, drop-drop, sum_by-cons, le_bytes_4, le_bytes_8, bytes_eq-Decides, Token, Data, Ack, Form, WireEnd, NUMBER_LIMIT, u8_at, u32_at, u64_at, u32_bytes, u64_bytes, NodeState, page_count, image, node_of, IsNode, Port, Network, EndsSeen, Topology, line_count, image_length, images_length, cut_length, generation_of, flights_in, line_bytes, port_bytes, node_with, tokens_of, tokens_at, is_record, line_with, is_line_of, port_at, is_port_of, port_with, or_damaged, nodes_in, lines_in, ports_in, base_number, cut_bytes, has_record, are_lines, IsCut, front_bytes, base_field, base_of, form_of, has_front, nodes_place, lines_place, ports_place, groups_place, network_of, cut_in, AreBytes, byte_below, are_bytes-take, are_bytes-drop, image-node_of, is_node-node_of, flights_found}
 use Rattle.tp_law_device.proofs.Faults.{bind_ok, or_damaged_ok, tested}
 use Rattle.tp_law_device.proofs.Forms.{base_below, field_is}
 use Rattle.tp_law_device.proofs.Fronts.{u32_front, u64_front, whole_front}

@@ -1,26 +1,7 @@
 -- What is read as groups is spelt as groups.
 use Rattle.std.proofs.Common.{◌≡◌, ℕ, zero, suc, ◌+◌, ◌-◌, ◌*◌, ◌<◌, ◌≤◌, Bool, true, false, cond, List, [], ◌∷◌, ◌++◌, length, take, drop, refl, sym, ap, subst, ◌∙◌, arith, append_assoc, append-nil, length-append, length-drop, Option, Some, None, Ok}
 use Rattle.std.specs.Prelude.{◌==◌, ◌&&◌, nat_le, nat_lt, map, flat_map}
-use Rattle.std.specs.Option.{option_map}
-use Rattle.std.specs.List.{AllByRecursion, concat}
-use Rattle.std.proofs.lemmas.Bool.{and_parts, leb-true, ltb-true, false≢true}
-use Rattle.std.proofs.lemmas.List.{take_at, drop_at, take-append-drop, map-append, length-map, take-map, drop-map}
-use Rattle.tp_model.specs.declared.entry.Entry.{Entry}
-use Rattle.tp_model.specs.declared.limits.TheConstants.{GATE_OPEN, MAX_GROUP, NUMBER_LIMIT}
-use Rattle.tp_model.specs.Network.{Machine, Network}
-use Rattle.tp_model.specs.Entries.{next}
-use Rattle.tp_model.specs.Order.{after}
-use Rattle.tp_model.specs.Numbers.{AreNumbered}
-use Rattle.tp_model.specs.Device.{is_open}
-use Rattle.tp_model.specs.EntryBytes.{AreOf, IsSpelt, entry_bytes, is_of}
-use Rattle.tp_model.specs.Group.{rows_of, rows_behind, header, group_length, group_bytes, or_bad}
-use Rattle.tp_model.specs.CutImage.{or_damaged}
-use Rattle.tp_model.specs.Spelling.{groups_bytes, entries_in, IsGroup}
-use Rattle.tp_model.specs.Replay.{Listing, Replay, row_entry, group_rows_at, at_open_gate, listing, with_entry, is_number, after_row, after_rows}
-use Rattle.tp_law_machine.proofs.EntryLaws.{entry_at-bytes}
-use Rattle.tp_law_machine.proofs.GroupLaws.{group_at-are}
-use Rattle.tp_law_network.proofs.Partial.{map_some, cond_some}
-use Rattle.tp_law_network.proofs.Reorder.{after_first}
+use Rattle.tp_law_device.proofs.Lower.{option_map, AllByRecursion, concat, and_parts, leb-true, ltb-true, false≢true, take_at, drop_at, take-append-drop, map-append, length-map, take-map, drop-map, Entry, GATE_OPEN, MAX_GROUP, NUMBER_LIMIT, Machine, Network, next, after, AreNumbered, is_open, AreOf, IsSpelt, entry_bytes, is_of, rows_of, rows_behind, header, group_length, group_bytes, or_bad, or_damaged, groups_bytes, entries_in, IsGroup, Listing, Replay, row_entry, group_rows_at, at_open_gate, listing, with_entry, is_number, after_row, after_rows, entry_at-bytes, group_at-are, map_some, cond_some, after_first}
 use Rattle.tp_law_device.proofs.Faults.{bind_ok, or_damaged_ok}
 use Rattle.tp_law_device.proofs.Forms.{row_spells}
 use Rattle.tp_law_device.proofs.Replays.{bytes_of_rows, entry_found}

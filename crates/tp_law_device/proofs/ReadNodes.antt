@@ -1,19 +1,7 @@
 -- The nodes of a cut that is read are of bytes, as the content is.
 use Rattle.std.proofs.Common.{◌≡◌, ℕ, ◌+◌, List, [], ◌∷◌, take, drop, subst, Ok}
 use Rattle.std.specs.Prelude.{◌==◌}
-use Rattle.std.specs.List.{AllByRecursion}
-use Rattle.tp_model.specs.NodeState.{NodeState}
-use Rattle.tp_model.specs.Image.{page_count, node_of}
-use Rattle.tp_model.specs.Network.{Network}
-use Rattle.tp_model.specs.Sound.{EndsSeen}
-use Rattle.tp_model.specs.Topology.{Topology, line_count}
-use Rattle.tp_model.specs.Journal.{image_length}
-use Rattle.tp_model.specs.CutImage.{node_with, or_damaged, nodes_in, lines_in, ports_in}
-use Rattle.tp_model.specs.Flight.{flights_in}
-use Rattle.tp_model.specs.Opening.{base_of, network_of, nodes_place, lines_place, ports_place, cut_in}
-use Rattle.tp_law_machine.specs.NodeOfBytes.{IsNodeOfBytes}
-use Rattle.tp_law_machine.proofs.Images.{node_of_bytes}
-use Rattle.tp_law_machine.proofs.Numbers.{AreBytes, are_bytes-take, are_bytes-drop}
+use Rattle.tp_law_device.proofs.Lower.{AllByRecursion, NodeState, page_count, node_of, Network, EndsSeen, Topology, line_count, image_length, node_with, or_damaged, nodes_in, lines_in, ports_in, flights_in, base_of, network_of, nodes_place, lines_place, ports_place, cut_in, IsNodeOfBytes, node_of_bytes, AreBytes, are_bytes-take, are_bytes-drop}
 use Rattle.tp_law_device.proofs.Faults.{bind_ok, or_damaged_ok, tested}
 
 nodes_of_bytes : (at : ℕ) (pages xs : List ℕ) (nodes : List NodeState) → AreBytes xs → nodes_in at pages xs ≡ Ok nodes → AllByRecursion IsNodeOfBytes nodes

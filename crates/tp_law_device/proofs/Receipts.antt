@@ -1,21 +1,6 @@
 -- The entries of a receipt that is acknowledged are among those that opening replays, each at its number.
 use Rattle.std.proofs.Common.{◌≡◌, ℕ, ◌+◌, ◌≤◌, List, ◌++◌, length, take, drop, refl, sym, ap, subst, ◌∙◌, arith, length-append}
-use Rattle.std.specs.List.{AllByRecursion}
-use Rattle.std.proofs.lemmas.List.{take-take, take_all, drop-take, drop_at, length-map}
-use Rattle.tp_model.specs.declared.entry.Entry.{Entry}
-use Rattle.tp_model.specs.NodeState.{NodeState}
-use Rattle.tp_model.specs.Node.{t414, t414_ends}
-use Rattle.tp_model.specs.Network.{Network}
-use Rattle.tp_model.specs.Order.{after}
-use Rattle.tp_model.specs.Disk.{MayBe}
-use Rattle.tp_model.specs.Areas.{next_number}
-use Rattle.tp_model.specs.DeviceAreas.{device_areas}
-use Rattle.tp_model.specs.Opening.{next_of, held_of, opening, verdict}
-use Rattle.tp_model.specs.OpensTo.{OpensTo}
-use Rattle.tp_model.specs.Acknowledged.{IsAcknowledged}
-use Rattle.tp_model.specs.Runs.{World, Event, Run, BeginsFormatted, Recovers}
-use Rattle.tp_law_machine.proofs.LinkLaws.{has_four_links, never_marks}
-use Rattle.tp_law_network.proofs.Acknowledged.{acknowledged}
+use Rattle.tp_law_device.proofs.Lower.{AllByRecursion, take-take, take_all, drop-take, drop_at, length-map, Entry, NodeState, t414, t414_ends, Network, after, MayBe, next_number, device_areas, next_of, held_of, opening, verdict, OpensTo, IsAcknowledged, World, Event, Run, BeginsFormatted, Recovers, has_four_links, never_marks, acknowledged}
 use Rattle.tp_law_device.proofs.Opens.{held_from}
 use Rattle.tp_law_device.proofs.Holds.{areas_keep}
 use Rattle.tp_law_device.proofs.Verdicts.{verdict_leads}

@@ -1,24 +1,7 @@
 -- Entries that are replayed from their bytes.
 use Rattle.std.proofs.Common.{◌≡◌, ℕ, ◌+◌, ◌-◌, ◌<◌, ◌≤◌, true, cond, List, [], ◌∷◌, ◌++◌, length, refl, sym, ap, subst, ◌∙◌, arith, append_assoc, append-nil, Option, Some, None, Ok}
 use Rattle.std.specs.Prelude.{◌&&◌, nat_le, nat_lt, map}
-use Rattle.std.specs.Option.{option_map, option_and_then}
-use Rattle.std.specs.List.{AllByRecursion}
-use Rattle.std.proofs.lemmas.Bool.{and_parts, and_from, leb-true, le-leb, lt-ltb}
-use Rattle.std.proofs.lemmas.List.{map_push, length_push}
-use Rattle.tp_model.specs.declared.entry.Entry.{Entry}
-use Rattle.tp_model.specs.declared.form.Form.{Form}
-use Rattle.tp_model.specs.declared.limits.TheConstants.{NUMBER_LIMIT}
-use Rattle.tp_model.specs.Results.{◌>>=◌}
-use Rattle.tp_model.specs.Network.{Machine, Network}
-use Rattle.tp_model.specs.Entries.{next}
-use Rattle.tp_model.specs.Order.{after}
-use Rattle.tp_model.specs.EntryBytes.{entry_bytes, is_of, is_spelt, AreOf, IsSpelt}
-use Rattle.tp_model.specs.Group.{rows_of}
-use Rattle.tp_model.specs.CutImage.{or_damaged}
-use Rattle.tp_model.specs.Replay.{Replay, row_entry, group_rows_at, with_entry, is_number, after_entry, after_row, after_rows, replay_from}
-use Rattle.tp_model.specs.Numbers.{AreNumbered}
-use Rattle.tp_law_network.proofs.Partial.{map_some, cond_some}
-use Rattle.tp_law_network.proofs.Reorder.{after_last, first_possible}
+use Rattle.tp_law_device.proofs.Lower.{option_map, option_and_then, AllByRecursion, and_parts, and_from, leb-true, le-leb, lt-ltb, map_push, length_push, Entry, Form, NUMBER_LIMIT, ◌>>=◌, Machine, Network, next, after, entry_bytes, is_of, is_spelt, AreOf, IsSpelt, rows_of, or_damaged, Replay, row_entry, group_rows_at, with_entry, is_number, after_entry, after_row, after_rows, replay_from, AreNumbered, map_some, cond_some, after_last, first_possible}
 use Rattle.tp_law_device.proofs.Faults.{bind_ok, or_damaged_ok}
 use Rattle.tp_law_device.proofs.Forms.{row_entry-spelt}
 

@@ -1,26 +1,7 @@
 -- At each moment of a run its entries find room: those of the next group, and those outside a whole cut.
 use Rattle.std.proofs.Common.{◌≡◌, ℕ, ◌+◌, ◌*◌, ◌≤◌, ◌⊎◌, inl, inr, List, [], ◌∷◌, length, refl, sym, ap, subst, arith, le_refl, length-append}
-use Rattle.tp_model.specs.declared.entry.Entry.{Entry}
-use Rattle.tp_model.specs.NodeState.{NodeState}
-use Rattle.tp_model.specs.Node.{t414}
-use Rattle.tp_model.specs.Network.{Network}
-use Rattle.tp_model.specs.Entries.{process}
-use Rattle.tp_model.specs.Order.{post}
-use Rattle.tp_model.specs.Snapshot.{MarkedNetwork}
-use Rattle.tp_model.specs.WholeCut.{WholeCut, count_in, trimmed}
-use Rattle.tp_model.specs.Acts.{Act, Begin, Record, Journal, Close, Trim}
-use Rattle.tp_model.specs.Journal.{entry_room}
-use Rattle.tp_model.specs.DeviceAreas.{device_areas}
-use Rattle.tp_model.specs.WriteOrder.{Position, Resting, Body, Ready, Gate, Cleared, Tail, Opening, Opened, Broken, reached}
-use Rattle.tp_model.specs.Runs.{World, Event, Acts, Copies, CopiesTail, Does, Breaks, Trims, Raises, Reads as ReadsMark, Reopens, grown, HasCut, Step}
-use Rattle.tp_model.specs.TailRoom.{HasTailRoom, FindsRoom}
-use Rattle.tp_model.specs.KeptRun.{IsKept}
-use Rattle.tp_law_machine.proofs.LinkLaws.{has_four_links}
-use Rattle.tp_law_network.proofs.Choice.{length-pre-post}
-use Rattle.tp_law_network.specs.Invariant.{CutInvariant}
-use Rattle.tp_law_network.proofs.Whole.{whole_holds}
-use Rattle.tp_law_network.proofs.Stays.{entries_grow}
-use Rattle.tp_law_network.proofs.Invariant.{Inv, At}
+use Rattle.tp_law_device.proofs.Lower.{Entry, NodeState, t414, Network, process, post, MarkedNetwork, WholeCut, count_in, trimmed, Act, Begin, Record, Journal, Close, Trim, entry_room, device_areas, Position, Resting, Body, Ready, Gate, Cleared, Tail, Opening, Broken, reached, World, Event, Acts, Copies, CopiesTail, Does, Breaks, Trims, Raises, ReadsMark, Reopens, grown, HasCut, Step, HasTailRoom, FindsRoom, IsKept, has_four_links, length-pre-post, CutInvariant, whole_holds, entries_grow, Inv, At}
+use Rattle.tp_model.specs.WriteOrder.{Opened}
 use Rattle.tp_law_device.proofs.TailRoom.{tail_room_stays, tail_room_trim, tail_room_opened}
 
 -- the book's entries find room, each in a group of its own; or all are on the device

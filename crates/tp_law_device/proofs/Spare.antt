@@ -1,15 +1,6 @@
 -- Opening reads neither the range after the other area's closed gate nor what comes after the first closed gate of the groups.
 use Rattle.std.proofs.Common.{◌≡◌, ℕ, ◌+◌, ◌-◌, ◌<◌, ◌≤◌, ◌⊎◌, inl, inr, Bool, true, false, not, cond, List, [], ◌∷◌, length, get_or, refl, sym, ap, subst, ◌∙◌, arith, le_refl, Some, Ok}
-use Rattle.tp_model.specs.declared.areas.TwoAreas.{TwoAreas}
-use Rattle.tp_model.specs.NodeState.{NodeState}
-use Rattle.tp_model.specs.Network.{Machine}
-use Rattle.tp_model.specs.Sound.{EndsSeen}
-use Rattle.tp_model.specs.Areas.{Held}
-use Rattle.tp_model.specs.Device.{area_start, is_open}
-use Rattle.tp_model.specs.Disk.{MayBe}
-use Rattle.tp_model.specs.Opening.{Opened, opening}
-use Rattle.tp_model.specs.DeviceAreas.{spare_of}
-use Rattle.tp_law_network.proofs.SmallHolds.{IsOut}
+use Rattle.tp_law_device.proofs.Lower.{TwoAreas, NodeState, Machine, EndsSeen, Held, area_start, is_open, MayBe, Opened, opening, spare_of, IsOut}
 use Rattle.tp_law_device.proofs.Chosen.{open_in}
 use Rattle.tp_law_device.proofs.Contents.{places, age_same}
 use Rattle.tp_law_device.proofs.Opens.{Reads, held_in, held_from, layout, end_within, end_low, end_shut, HeadStays, OwnStays, OtherStays, keeps, found_in}

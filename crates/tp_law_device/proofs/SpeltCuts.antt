@@ -1,32 +1,8 @@
 -- A cut that is spelt is read back.
 use Rattle.std.proofs.Common.{◌≡◌, ℕ, zero, suc, ◌+◌, ◌-◌, ◌*◌, ◌/◌, ◌%◌, ◌^◌, ◌<◌, ◌≤◌, true, cond, List, [], ◌∷◌, ◌++◌, length, take, drop, refl, sym, ap, ◌∙◌, arith, append_assoc, length-append, length-drop, Option, Some, None, Ok, Err}
 use Rattle.std.specs.Prelude.{◌==◌, ◌&&◌, nat_le, nat_lt, map, flat_map, sum_by, bytes_eq}
-use Rattle.std.specs.List.{list_all, AllByRecursion}
-use Rattle.std.proofs.lemmas.Bool.{and_parts, and_from, leb-true, lt-ltb, eqb-true, eq-eqb, cond-true, false≢true}
-use Rattle.std.proofs.lemmas.List.{take_at, drop_at, drop-drop, length-replicate}
-use Rattle.std.proofs.lemmas.List.Sums.{sum_by-cons}
-use Rattle.std.proofs.lemmas.Nat.{from_le_bytes-to_le_bytes_2, from_le_bytes-to_le_bytes_4, from_le_bytes-to_le_bytes_8}
+use Rattle.tp_law_device.proofs.Lower.{list_all, AllByRecursion, and_parts, and_from, leb-true, lt-ltb, eqb-true, eq-eqb, cond-true, false≢true, take_at, drop_at, drop-drop, length-replicate, sum_by-cons, from_le_bytes-to_le_bytes_2, from_le_bytes-to_le_bytes_4, from_le_bytes-to_le_bytes_8, bytes_eq-Decides, Token, Data, Ack, Form, WireEnd, Damaged, MIN_PAGES, MAX_PAGES, MAX_HELD, NUMBER_LIMIT, ◌>>=◌, u16_at, u32_at, u64_at, zeros, padded, NodeState, page_count, image_head, image, node_at, is_memory, is_node, node_of, Port, Network, back, EndsSeen, Topology, line_count, is_page_count, image_length, images_length, cut_length, generation_of, is_in_one_place, flights_in, line_bytes, port_bytes, only_if, node_with, tokens_at, is_record, line_with, is_line_of, port_at, is_port_of, port_with, or_damaged, nodes_in, lines_in, ports_in, base_number, cut_bytes, has_record, are_lines, front_bytes, base_field, base_of, form_at, form_of, has_front, nodes_place, lines_place, ports_place, groups_place, network_of, cut_in}
 use Rattle.std.proofs.lemmas.Option.{cond_some}
-use Rattle.std.proofs.lemmas.Slice.Eq.{bytes_eq-Decides}
-use Rattle.tp_model.specs.declared.link.Token.{Token}
-use Rattle.tp_model.specs.declared.link.Token.TheVariants.{Data, Ack}
-use Rattle.tp_model.specs.declared.form.Form.{Form}
-use Rattle.tp_model.specs.declared.wire.WireEnd.{WireEnd}
-use Rattle.tp_model.specs.declared.opening.OpenFault.TheVariants.{Damaged}
-use Rattle.tp_model.specs.declared.limits.TheConstants.{MIN_PAGES, MAX_PAGES, MAX_HELD, NUMBER_LIMIT}
-use Rattle.tp_model.specs.Results.{◌>>=◌}
-use Rattle.tp_model.specs.Bytes.{u16_at, u32_at, u64_at, zeros, padded}
-use Rattle.tp_model.specs.NodeState.{NodeState}
-use Rattle.tp_model.specs.Image.{page_count, image_head, image, node_at, is_memory, is_node, node_of}
-use Rattle.tp_model.specs.Network.{Port, Network, back}
-use Rattle.tp_model.specs.Sound.{EndsSeen}
-use Rattle.tp_model.specs.Topology.{Topology, line_count, is_page_count}
-use Rattle.tp_model.specs.Journal.{image_length, images_length, cut_length}
-use Rattle.tp_model.specs.Device.{generation_of}
-use Rattle.tp_model.specs.Flight.{is_in_one_place, flights_in}
-use Rattle.tp_model.specs.CutImage.{line_bytes, port_bytes, only_if, node_with, tokens_at, is_record, line_with, is_line_of, port_at, is_port_of, port_with, or_damaged, nodes_in, lines_in, ports_in, base_number, cut_bytes}
-use Rattle.tp_model.specs.Spelling.{has_record, are_lines, front_bytes}
-use Rattle.tp_model.specs.Opening.{base_field, base_of, form_at, form_of, has_front, nodes_place, lines_place, ports_place, groups_place, network_of, cut_in}
 use Rattle.tp_law_device.proofs.Forms.{base_back, base_number_below, form_back}
 use Rattle.tp_law_device.proofs.Wires.{HasShape}
 

@@ -1,20 +1,6 @@
 -- A device that is spelt like this opens like this.
 use Rattle.std.proofs.Common.{◌≡◌, ℕ, inl, inr, not, List, [], ◌∷◌, sym, ◌∙◌, arith, Ok}
-use Rattle.std.specs.List.{AllByRecursion}
-use Rattle.std.proofs.lemmas.Bool.{cases_Bool}
-use Rattle.tp_model.specs.declared.entry.Entry.{Entry}
-use Rattle.tp_model.specs.declared.form.Form.{Form}
-use Rattle.tp_model.specs.NodeState.{NodeState}
-use Rattle.tp_model.specs.Image.{IsNode}
-use Rattle.tp_model.specs.Network.{Machine, Network}
-use Rattle.tp_model.specs.Sound.{EndsSeen}
-use Rattle.tp_model.specs.Topology.{Topology}
-use Rattle.tp_model.specs.Device.{content_of}
-use Rattle.tp_model.specs.Spelling.{IsCut, SpellsArea, DeviceSpells}
-use Rattle.tp_model.specs.Opening.{Opened, chosen_area, opening, verdict}
-use Rattle.tp_model.specs.Node.{t414, t414_ends}
-use Rattle.tp_law_machine.proofs.Images.{node_of-image}
-use Rattle.tp_law_machine.proofs.Numbers.{AreBytes}
+use Rattle.tp_law_device.proofs.Lower.{AllByRecursion, cases_Bool, Entry, Form, NodeState, IsNode, Machine, Network, EndsSeen, Topology, content_of, IsCut, SpellsArea, DeviceSpells, Opened, chosen_area, opening, verdict, t414, t414_ends, node_of-image, AreBytes}
 use Rattle.tp_law_device.proofs.ReadAreas.{opens_stand}
 use Rattle.tp_law_device.proofs.Wires.{has_shape}
 use Rattle.tp_law_device.proofs.FreshHeads.{head_of-head_bytes}

@@ -1,23 +1,11 @@
 -- Once its pieces are written, the copy is what the other area holds, and what opens once its gate is open.
-use Rattle.std.proofs.Common.{◌≡◌, ℕ, ◌+◌, ◌<◌, false, List, map, ap, ◌∙◌, arith, Some, Ok}
-use Rattle.std.specs.List.{AllByRecursion}
-use Rattle.tp_model.specs.declared.entry.Entry.{Entry}
-use Rattle.tp_model.specs.declared.limits.TheConstants.{NUMBER_LIMIT}
-use Rattle.tp_model.specs.declared.form.Form.TheVariants.{Turns}
-use Rattle.tp_model.specs.NodeState.{NodeState}
-use Rattle.tp_model.specs.Node.{t414, t414_ends}
-use Rattle.tp_model.specs.Areas.{Held, gate_open}
-use Rattle.tp_model.specs.Disk.{written}
-use Rattle.tp_model.specs.Spelling.{entries_in, SpellsArea}
-use Rattle.tp_model.specs.Opening.{Opened, opening}
-use Rattle.tp_model.specs.DeviceAreas.{other_start, other_is_open, other_content, device_areas}
+use Rattle.std.proofs.Common.{◌≡◌, ℕ, ◌+◌, ◌<◌, false, List, ap, ◌∙◌, arith, Some, Ok}
+use Rattle.std.specs.Prelude.{map}
+use Rattle.tp_law_device.proofs.Lower.{AllByRecursion, Entry, NUMBER_LIMIT, Turns, NodeState, t414, t414_ends, Held, gate_open, written, entries_in, SpellsArea, Opened, opening, other_start, other_is_open, other_content, device_areas, CopySpelt, IsSized, PiecesStand, opened_copy}
 use Rattle.tp_law_device.proofs.Heads.{head_parts}
 use Rattle.tp_law_device.proofs.Opens.{reads_of}
 use Rattle.tp_law_device.proofs.Stand.{spelt_area}
 use Rattle.tp_law_device.proofs.Checkpoints.{other_opens}
-use Rattle.tp_model.specs.CopySpelt.{CopySpelt}
-use Rattle.tp_model.specs.PiecesStand.{IsSized, PiecesStand}
-use Rattle.tp_model.specs.OpenedCopy.{opened_copy}
 use Rattle.tp_law_device.proofs.Other.{other_spelt}
 use Rattle.tp_law_device.proofs.Pieces.{pieces_spell}
 

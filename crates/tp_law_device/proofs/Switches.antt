@@ -1,22 +1,8 @@
 -- The other area's gate is written closed, and open.
 use Rattle.std.proofs.Common.{◌≡◌, ℕ, ◌+◌, ◌<◌, ◌≤◌, ◌⊎◌, inl, inr, true, false, not, List, [], ◌∷◌, length, get_or, refl, sym, ap, subst, ◌∙◌, arith, Some, Result, Ok, Err}
 use Rattle.std.specs.Prelude.{nat_lt}
-use Rattle.std.proofs.lemmas.Bool.{cases_Bool, both_ways, ltb-true}
+use Rattle.tp_law_device.proofs.Lower.{cases_Bool, both_ways, ltb-true, OpenFault, GATE_OPEN, TwoAreas, NodeState, Machine, EndsSeen, Held, gate_open, area_start, content_of, is_open, MayBe, written, Opened, held_of, area_in, opening, other_is_open, other_content, spare_of, open_other_of, if_newer, other_of, none_or, length-written, get_or-written_outside, get_or-written_inside, IsOut}
 use Rattle.std.proofs.lemmas.Option.{cond_some}
-use Rattle.tp_model.specs.declared.opening.OpenFault.{OpenFault}
-use Rattle.tp_model.specs.declared.limits.TheConstants.{GATE_OPEN}
-use Rattle.tp_model.specs.declared.areas.TwoAreas.{TwoAreas}
-use Rattle.tp_model.specs.NodeState.{NodeState}
-use Rattle.tp_model.specs.Network.{Machine}
-use Rattle.tp_model.specs.Sound.{EndsSeen}
-use Rattle.tp_model.specs.Areas.{Held, gate_open}
-use Rattle.tp_model.specs.Device.{area_start, content_of, is_open}
-use Rattle.tp_model.specs.Disk.{MayBe, written}
-use Rattle.tp_model.specs.Opening.{Opened, held_of, area_in, opening}
-use Rattle.tp_model.specs.DeviceAreas.{other_is_open, other_content, spare_of, open_other_of, if_newer, other_of}
-use Rattle.tp_law_machine.proofs.Faults.{none_or}
-use Rattle.tp_law_network.proofs.Moments.{length-written, get_or-written_outside, get_or-written_inside}
-use Rattle.tp_law_network.proofs.SmallHolds.{IsOut}
 use Rattle.tp_law_device.proofs.Chosen.{open_in}
 use Rattle.tp_law_device.proofs.Contents.{places, age_same}
 use Rattle.tp_law_device.proofs.Opens.{Reads, held_in, held_from, layout, end_within, end_low, end_shut, HeadStays, OwnStays, keeps, switches, found_in}

@@ -1,26 +1,7 @@
 -- Whenever the flusher rests, a run switches to a cut that is whole.
-use Rattle.std.proofs.Common.{◌≡◌, ℕ, ◌+◌, ◌-◌, ◌<◌, ◌≤◌, true, false, cond, inl, inr, List, [], ◌∷◌, ◌++◌, length, map, take, drop, get_or, refl, sym, ap, subst, ◌∙◌, arith, le_refl, Some, None, Ok}
-use Rattle.std.proofs.lemmas.Bool.{cases_Bool}
-use Rattle.tp_model.specs.declared.entry.Entry.{Entry}
-use Rattle.tp_model.specs.declared.limits.TheConstants.{NUMBER_LIMIT, GATE_CLOSED}
-use Rattle.tp_model.specs.declared.form.Form.TheVariants.{Turns}
-use Rattle.tp_model.specs.NodeState.{NodeState}
-use Rattle.tp_model.specs.Node.{t414, t414_ends}
-use Rattle.tp_model.specs.Network.{Network}
-use Rattle.tp_model.specs.WholeCut.{WholeCut}
-use Rattle.tp_model.specs.Journal.{room}
-use Rattle.tp_model.specs.Disk.{Write, Sync, done, written, IsWithin}
-use Rattle.tp_model.specs.Areas.{gate_closed}
-use Rattle.tp_model.specs.Device.{is_open}
-use Rattle.tp_model.specs.Numbers.{AreNumbered}
-use Rattle.tp_model.specs.Opening.{Opened, opening}
-use Rattle.tp_model.specs.DeviceAreas.{device_areas, numbered, other_start, other_is_open, spare_of, open_other_of}
-use Rattle.tp_model.specs.WriteOrder.{Allows, Resting, Cleared, clearing, clear_done, reached, left}
-use Rattle.tp_model.specs.Runs.{World, Event, Does, HasCut, BeginsFormatted, Run, copy_of}
-use Rattle.tp_model.specs.KeptRun.{KeptRun}
-use Rattle.tp_law_machine.proofs.Moments.{length-written, get_or-written_outside, get_or-written_inside}
-use Rattle.tp_law_machine.proofs.Numbers.{AreBytes, are_bytes-append, are_bytes-take, are_bytes-drop}
-use Rattle.tp_law_network.proofs.Walks.{run_then}
+use Rattle.std.proofs.Common.{◌≡◌, ℕ, ◌+◌, ◌-◌, ◌<◌, ◌≤◌, true, false, cond, inl, inr, List, [], ◌∷◌, ◌++◌, length, take, drop, get_or, refl, sym, ap, subst, ◌∙◌, arith, le_refl, Some, None, Ok}
+use Rattle.std.specs.Prelude.{map}
+use Rattle.tp_law_device.proofs.Lower.{cases_Bool, Entry, NUMBER_LIMIT, GATE_CLOSED, Turns, NodeState, t414, t414_ends, Network, WholeCut, room, Write, Sync, done, written, IsWithin, gate_closed, is_open, AreNumbered, Opened, opening, device_areas, numbered, other_start, other_is_open, spare_of, open_other_of, Allows, Resting, Cleared, clearing, clear_done, reached, left, World, Event, Does, HasCut, BeginsFormatted, Run, copy_of, KeptRun, length-written, get_or-written_outside, get_or-written_inside, AreBytes, are_bytes-append, are_bytes-take, are_bytes-drop, run_then}
 use Rattle.tp_law_device.specs.Checkpoints.{Switches}
 use Rattle.tp_law_device.proofs.Checkpoints.{checkpoint_switches}
 use Rattle.tp_law_device.proofs.Opens.{reads_of}

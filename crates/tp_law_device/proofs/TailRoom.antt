@@ -1,26 +1,7 @@
 -- The tail of a whole cut finds room.
-use Rattle.std.proofs.Common.{◌≡◌, ℕ, zero, suc, ◌+◌, ◌*◌, ◌<◌, ◌≤◌, inl, inr, false, not, List, [], ◌∷◌, ◌++◌, length, get_or, set, replicate, refl, sym, ap, subst, ◌∙◌, arith, length-append, Option, Some, None, get_or-set_same, get_or-set_other}
-use Rattle.std.specs.Prelude.{is_some, length}
-use Rattle.std.proofs.lemmas.Bool.{true≢false, cond_both, cases_lt, cases_eq}
-use Rattle.std.proofs.lemmas.List.{get_or_append_left, get_or_at, get_or_past, length-replicate}
-use Rattle.tp_model.specs.declared.link.Token.{Token}
-use Rattle.tp_model.specs.Network.{Machine, Port, on_line, sent}
-use Rattle.tp_model.specs.Entries.{process, HasFourLinks}
-use Rattle.tp_model.specs.Order.{made, post}
-use Rattle.tp_model.specs.Markers.{before, plain_network}
-use Rattle.tp_model.specs.Snapshot.{Snapshot, MarkedNetwork, count_of, has_recorded, is_closed, collected, with_count, closed_over, first_snapshot}
-use Rattle.tp_model.specs.WholeCut.{WholeCut, count_in, whole, trimmed}
-use Rattle.tp_model.specs.Acts.{Act, Begin, Record, Journal, Close, Trim, happens}
-use Rattle.tp_model.specs.Journal.{entry_room}
-use Rattle.tp_model.specs.Runs.{is_trim}
-use Rattle.tp_law_network.proofs.Choice.{length-pre-post, post_all}
-use Rattle.tp_law_network.proofs.Reorder.{after_shape}
-use Rattle.tp_law_network.specs.Invariant.{CutInvariant}
-use Rattle.tp_law_network.proofs.Whole.{all_counts}
-use Rattle.tp_law_network.proofs.Acts.{begin_parts, record_parts, close_parts, journal_parts}
-use Rattle.tp_law_network.proofs.Begin.{made_past}
-use Rattle.tp_law_network.proofs.Stays.{whole_counts}
-use Rattle.tp_model.specs.TailRoom.{HasTailRoom, FindsRoom}
+use Rattle.std.proofs.Common.{◌≡◌, ℕ, zero, suc, ◌+◌, ◌*◌, ◌<◌, ◌≤◌, inl, inr, false, not, List, [], ◌∷◌, ◌++◌, length, get_or, set, refl, sym, ap, subst, ◌∙◌, arith, length-append, Option, Some, None, get_or-set_same, get_or-set_other}
+use Rattle.std.specs.Prelude.{replicate, is_some}
+use Rattle.tp_law_device.proofs.Lower.{true≢false, cond_both, cases_lt, cases_eq, get_or_append_left, get_or_at, get_or_past, length-replicate, Token, Machine, Port, on_line, sent, process, HasFourLinks, made, post, before, plain_network, Snapshot, MarkedNetwork, count_of, has_recorded, is_closed, collected, with_count, closed_over, first_snapshot, WholeCut, count_in, whole, trimmed, Act, Begin, Record, Journal, Close, Trim, happens, entry_room, is_trim, length-pre-post, post_all, after_shape, CutInvariant, all_counts, begin_parts, record_parts, close_parts, journal_parts, made_past, whole_counts, HasTailRoom, FindsRoom}
 
 get_or-none : (n p : ℕ) → p < n → get_or (replicate {A = Option ℕ} n None) p (Some 0) ≡ None
 get_or-none zero p low = absurd (omega (arith, low))

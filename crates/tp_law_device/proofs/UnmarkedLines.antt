@@ -1,15 +1,7 @@
 -- Lines that have a record have no Marker, and there are as many as wires.
-use Rattle.std.proofs.Common.{◌≡◌, ℕ, zero, suc, List, [], ◌∷◌, length, map, refl, sym, ap, arith, true, false, Option, Some, None}
-use Rattle.std.specs.Prelude.{◌&&◌}
-use Rattle.std.proofs.lemmas.Bool.{and_parts, eqb-true, false≢true}
-use Rattle.tp_model.specs.declared.link.Token.{Token}
-use Rattle.tp_model.specs.declared.link.Token.TheVariants.{Data, Ack, Marker}
-use Rattle.tp_model.specs.declared.wire.WireEnd.{WireEnd}
-use Rattle.tp_model.specs.Network.{on_line, has_wire}
-use Rattle.tp_model.specs.Markers.{markers, plain}
-use Rattle.tp_model.specs.CutImage.{is_line_of}
-use Rattle.tp_model.specs.Spelling.{has_record, are_lines}
-use Rattle.tp_law_network.proofs.CutsMarks.{plain_unmarked}
+use Rattle.std.proofs.Common.{◌≡◌, ℕ, zero, suc, List, [], ◌∷◌, length, refl, sym, ap, arith, true, false, Option, Some, None}
+use Rattle.std.specs.Prelude.{map, ◌&&◌}
+use Rattle.tp_law_device.proofs.Lower.{and_parts, eqb-true, false≢true, Token, Data, Ack, Marker, WireEnd, on_line, has_wire, markers, plain, is_line_of, has_record, are_lines, plain_unmarked}
 
 -- ## A line
 

@@ -1,28 +1,7 @@
 -- From what opening answers to the state that it means, whatever the bytes.
 use Rattle.std.proofs.Common.{◌≡◌, ℕ, ◌+◌, ◌≤◌, List, take, refl, sym, ap, subst, ◌∙◌, arith, Some, Ok}
 use Rattle.std.specs.Prelude.{map}
-use Rattle.std.specs.List.{AllByRecursion}
-use Rattle.std.proofs.lemmas.List.{length-map}
-use Rattle.tp_model.specs.declared.entry.Entry.{Entry}
-use Rattle.tp_model.specs.NodeState.{NodeState}
-use Rattle.tp_model.specs.Node.{t414, t414_ends}
-use Rattle.tp_model.specs.Network.{Machine, Network}
-use Rattle.tp_model.specs.Order.{after}
-use Rattle.tp_model.specs.Sound.{EndsSeen, Sound}
-use Rattle.tp_model.specs.Acts.{IsOpened}
-use Rattle.tp_model.specs.CutOrder.{HasOrder}
-use Rattle.tp_model.specs.Disk.{MayBe}
-use Rattle.tp_model.specs.Areas.{next_number}
-use Rattle.tp_model.specs.DeviceAreas.{device_areas}
-use Rattle.tp_model.specs.Device.{area_start, content_of}
-use Rattle.tp_model.specs.Opening.{Opened, next_of, held_of, base_of, opening, verdict}
-use Rattle.tp_model.specs.OpensTo.{OpensTo, book_of}
-use Rattle.tp_model.specs.Runs.{World, Event, Run, fresh, BeginsFormatted}
-use Rattle.tp_law_machine.proofs.LinkLaws.{has_four_links, never_marks, keeps_flight}
-use Rattle.tp_law_network.proofs.Sound.{sound_after}
-use Rattle.tp_law_network.specs.Invariant.{CutInvariant}
-use Rattle.tp_law_network.proofs.Runs.{reopened_holds, run_recovers}
-use Rattle.tp_law_network.proofs.History.{crash_order}
+use Rattle.tp_law_device.proofs.Lower.{AllByRecursion, length-map, Entry, NodeState, t414, t414_ends, Machine, Network, after, EndsSeen, Sound, IsOpened, HasOrder, MayBe, next_number, device_areas, area_start, content_of, Opened, next_of, held_of, base_of, opening, verdict, OpensTo, book_of, World, Event, Run, fresh, BeginsFormatted, has_four_links, never_marks, keeps_flight, sound_after, CutInvariant, reopened_holds, run_recovers, crash_order}
 use Rattle.tp_law_device.proofs.Heads.{head_parts}
 use Rattle.tp_law_device.proofs.Replays.{replay_holds}
 use Rattle.tp_law_device.proofs.AreaReads.{area_parts, groups_in}

@@ -1,20 +1,7 @@
 -- The wires of a topology are read back of its links' ends.
 use Rattle.std.proofs.Common.{◌≡◌, ℕ, zero, suc, ◌+◌, ◌-◌, ◌*◌, ◌/◌, ◌%◌, ◌^◌, ◌<◌, ◌≤◌, inl, inr, true, cond, List, [], ◌∷◌, length, take, get_or, refl, sym, ap, ◌∙◌, arith, length-append, length-take, Option, Some, None}
 use Rattle.std.specs.Prelude.{◌==◌, ◌&&◌, nat_lt, nat_le, map}
-use Rattle.std.specs.Option.{option_map}
-use Rattle.std.specs.List.{list_all, range_with_len, position_or_len}
-use Rattle.std.proofs.lemmas.Bool.{false_from_ne_true, and_parts, cases_lt, ltb-true, lt-ltb, le-ltb, leb-true, eqb-true, cond-true, cond-false, ne_eqb, eq-eqb, false≢true}
-use Rattle.std.proofs.lemmas.List.{ext_get_or, get_or-map, get_or-take, get_or_append_left, get_or-append_right, length-map}
-use Rattle.std.proofs.lemmas.List.FromFn.{get_or-map-range_with_len, length-range_with_len}
-use Rattle.std.proofs.lemmas.List.Sums.{position_or_len_is}
-use Rattle.tp_model.specs.declared.wire.WireEnd.{WireEnd}
-use Rattle.tp_model.specs.declared.wire.WireEnd.TheVariants.{Link, Port as AtPort}
-use Rattle.tp_model.specs.declared.head.HeadVersion.{HeadVersion}
-use Rattle.tp_model.specs.declared.head.HeadVersion.TheVariants.{Narrow, Wide}
-use Rattle.tp_model.specs.declared.limits.TheConstants.{MAX_NODES, MAX_PORTS}
-use Rattle.tp_model.specs.Network.{receiver, line_of}
-use Rattle.tp_model.specs.Topology.{Topology, node_count, line_count, end_of, is_end, is_line, joins_link, leads_back, all_lead_back, is_page_count, is_topology}
-use Rattle.tp_model.specs.Head.{head_nodes, first_port, end_number, end_of_number, is_port, port_wire, all_wires}
+use Rattle.tp_law_device.proofs.Lower.{option_map, list_all, range_with_len, position_or_len, false_from_ne_true, and_parts, cases_lt, ltb-true, lt-ltb, le-ltb, leb-true, eqb-true, cond-true, cond-false, ne_eqb, eq-eqb, false≢true, ext_get_or, get_or-map, get_or-take, get_or_append_left, get_or-append_right, length-map, get_or-map-range_with_len, length-range_with_len, position_or_len_is, WireEnd, Link, AtPort, HeadVersion, Narrow, Wide, MAX_NODES, MAX_PORTS, receiver, line_of, Topology, node_count, line_count, end_of, is_end, is_line, joins_link, leads_back, all_lead_back, is_page_count, is_topology, head_nodes, first_port, end_number, end_of_number, is_port, port_wire, all_wires}
 
 -- ## Wires that lead back
 

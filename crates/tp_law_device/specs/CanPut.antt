@@ -1,15 +1,6 @@
 -- What it means that a copy can be put into the other area.
 use Rattle.std.specs.Prelude.{◌≡◌, ℕ, ◌+◌, ◌-◌, List, map, length, Some}
-use Rattle.tp_model.specs.declared.entry.Entry.{Entry}
-use Rattle.tp_model.specs.declared.form.Form.TheVariants.{Turns}
-use Rattle.tp_model.specs.NodeState.{NodeState}
-use Rattle.tp_model.specs.Node.{t414, t414_ends}
-use Rattle.tp_model.specs.Network.{Network}
-use Rattle.tp_model.specs.Areas.{Held, gate_open}
-use Rattle.tp_model.specs.Disk.{written}
-use Rattle.tp_model.specs.Spelling.{entries_in, SpellsArea}
-use Rattle.tp_model.specs.Opening.{Opened, held_of}
-use Rattle.tp_model.specs.DeviceAreas.{other_start, device_areas}
+use Rattle.tp_law_device.specs.Lower.{Entry, Turns, NodeState, t414, t414_ends, Network, Held, gate_open, written, entries_in, SpellsArea, Opened, held_of, other_start, device_areas}
 
 -- the bytes with this content in the other area
 abbrev pub with_other : List ℕ → Opened → List ℕ → List ℕ

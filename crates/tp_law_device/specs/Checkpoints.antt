@@ -1,26 +1,7 @@
 -- A checkpoint as a piece of a run: what it needs, and what it leads to.
 use Rattle.std.specs.Prelude.{◌≡◌, ◌<◌, ℕ, ◌+◌, false, not, List, [], ◌∷◌, map, length, Some, None, Ok}
-use Rattle.std.specs.List.{AllByRecursion}
-use Rattle.tp_model.specs.declared.entry.Entry.{Entry}
-use Rattle.tp_model.specs.declared.wire.WireEnd.TheVariants.{Link, Port as AtPort}
-use Rattle.tp_model.specs.declared.form.Form.{Form}
-use Rattle.tp_model.specs.declared.form.Form.TheVariants.{Turns}
-use Rattle.tp_model.specs.NodeState.{NodeState}
-use Rattle.tp_model.specs.Node.{t414, t414_ends}
-use Rattle.tp_model.specs.Network.{Network}
-use Rattle.tp_model.specs.Snapshot.{MarkedNetwork}
-use Rattle.tp_model.specs.WholeCut.{WholeCut, trimmed}
-use Rattle.tp_model.specs.Acts.{Act, Begin, Record, Close, acted}
-use Rattle.tp_model.specs.Topology.{Topology}
-use Rattle.tp_model.specs.Format.{fresh_port}
-use Rattle.tp_model.specs.Disk.{IsWithin}
-use Rattle.tp_model.specs.StoreCalls.{all_done, put_calls}
-use Rattle.tp_model.specs.Areas.{Held}
-use Rattle.tp_model.specs.DeviceAreas.{device_areas, other_is_open, other_content}
-use Rattle.tp_model.specs.Opening.{Opened, held_of, network_of, verdict}
-use Rattle.tp_model.specs.Spelling.{SpellsArea, entries_in}
-use Rattle.tp_model.specs.WriteOrder.{Resting}
-use Rattle.tp_model.specs.Runs.{World, Event, Run, HasCut, copy_of, fresh}
+use Rattle.tp_law_device.specs.Lower.{AllByRecursion, Entry, Link, AtPort, Form, Turns, NodeState, t414, t414_ends, Network, MarkedNetwork, WholeCut, trimmed, Act, Begin, Record, Close, acted, Topology, fresh_port, IsWithin, all_done, put_calls, Held, device_areas, other_is_open, other_content, Opened, held_of, network_of, verdict, SpellsArea, entries_in, Resting, World, Event, HasCut, copy_of, fresh}
+use Rattle.tp_model.specs.Runs.{Run}
 use Rattle.tp_law_device.specs.FormattedWorld.{formatted_world}
 
 -- The world's device opens as `o`, whose other area is closed. The pieces are after that area's gate. Once they are written, the area

@@ -1,14 +1,6 @@
 -- Where runs begin: a device that was formatted, and opened.
 use Rattle.std.specs.Prelude.{◌≡◌, ◌<◌, ℕ, ◌^◌, true, List, [], length, Some}
-use Rattle.tp_model.specs.declared.areas.TwoAreas.{TwoAreas}
-use Rattle.tp_model.specs.declared.form.Form.{Form}
-use Rattle.tp_model.specs.NodeState.{NodeState}
-use Rattle.tp_model.specs.Network.{Network}
-use Rattle.tp_model.specs.WriteOrder.{Resting}
-use Rattle.tp_model.specs.Topology.{Topology, is_topology}
-use Rattle.tp_model.specs.Device.{fits_device}
-use Rattle.tp_model.specs.Format.{start_of, IsFormatted}
-use Rattle.tp_model.specs.Runs.{World, fresh}
+use Rattle.tp_law_device.specs.Lower.{TwoAreas, Form, NodeState, Network, Resting, Topology, is_topology, fits_device, start_of, IsFormatted, World, fresh}
 
 -- no entry yet, and the device is synced
 abbrev pub formatted_world : Network NodeState → List ℕ → World NodeState

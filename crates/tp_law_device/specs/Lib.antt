@@ -1,3 +1,4 @@
+pub mod Lower
 pub mod CanPut
 pub mod Checkpoints
 pub mod CutSpelt

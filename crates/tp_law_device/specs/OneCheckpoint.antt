@@ -1,26 +1,6 @@
 -- A run with a checkpoint, computed: entries in the cut and outside it, and an Ack on a line of the cut.
 use Rattle.std.specs.Prelude.{◌≡◌, ℕ, ◌-◌, false, List, [], ◌∷◌, ◌++◌, length, map, None, Ok}
-use Rattle.tp_model.specs.declared.areas.TwoAreas.{TwoAreas}
-use Rattle.tp_model.specs.declared.form.Form.TheVariants.{Turns}
-use Rattle.tp_model.specs.declared.head.HeadVersion.TheVariants.{Narrow}
-use Rattle.tp_model.specs.declared.link.Token.TheVariants.{Data, Ack}
-use Rattle.tp_model.specs.declared.entry.Entry.{Entry}
-use Rattle.tp_model.specs.declared.entry.Entry.TheVariants.{Run, Take}
-use Rattle.tp_model.specs.declared.limits.TheConstants.{GATE_OPEN, GATE_CLOSED}
-use Rattle.tp_model.specs.Bytes.{zeros}
-use Rattle.tp_model.specs.NodeState.{NodeState}
-use Rattle.tp_model.specs.Image.{image}
-use Rattle.tp_model.specs.Network.{Network}
-use Rattle.tp_model.specs.WholeCut.{WholeCut}
-use Rattle.tp_model.specs.Acts.{Act, Begin, Record, Journal, Close}
-use Rattle.tp_model.specs.Head.{areas_of_length, head_bytes}
-use Rattle.tp_model.specs.Spelling.{front_bytes}
-use Rattle.tp_model.specs.Format.{fresh_port}
-use Rattle.tp_model.specs.Opening.{Opened, held_of, network_of, verdict}
-use Rattle.tp_model.specs.Runs.{World, Event, HasCut}
-use Rattle.tp_model.specs.KeptRun.{KeptRun}
-use Rattle.tp_law_machine.specs.OneNode.{one_node, one_before, one_after}
-use Rattle.tp_law_machine.specs.Transfers.{sending_node, awaits}
+use Rattle.tp_law_device.specs.Lower.{TwoAreas, Turns, Narrow, Data, Ack, Entry, Run, Take, GATE_OPEN, GATE_CLOSED, zeros, NodeState, image, Network, WholeCut, Act, Begin, Record, Journal, Close, areas_of_length, head_bytes, front_bytes, fresh_port, Opened, held_of, network_of, verdict, World, Event, HasCut, KeptRun, one_node, one_before, one_after, sending_node, awaits}
 use Rattle.tp_law_device.specs.Checkpoints.{Switches}
 use Rattle.tp_law_device.specs.FormattedWorld.{formatted_world, WasFormatted}
 

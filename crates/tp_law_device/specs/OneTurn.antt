@@ -1,22 +1,6 @@
 -- A device whose journal has a turn, computed: what it opens to, and that a plain area holds none.
 use Rattle.std.specs.Prelude.{◌≡◌, ℕ, ◌+◌, ◌-◌, ◌*◌, false, List, [], ◌∷◌, ◌++◌, length, Ok, Err}
-use Rattle.tp_model.specs.declared.form.Form.{Form}
-use Rattle.tp_model.specs.declared.form.Form.TheVariants.{Plain, Turns}
-use Rattle.tp_model.specs.declared.head.HeadVersion.TheVariants.{Narrow}
-use Rattle.tp_model.specs.declared.link.Token.TheVariants.{Data}
-use Rattle.tp_model.specs.declared.link.Received.TheVariants.{Nothing, JustAck}
-use Rattle.tp_model.specs.declared.entry.Entry.{Entry}
-use Rattle.tp_model.specs.declared.entry.Entry.TheVariants.{Run, Take, Turn}
-use Rattle.tp_model.specs.declared.opening.OpenFault.TheVariants.{Damaged}
-use Rattle.tp_model.specs.declared.limits.TheConstants.{ENTRY_BYTES, GATE_OPEN, GATE_CLOSED, GROUP_HEAD_BYTES}
-use Rattle.tp_model.specs.Bytes.{zeros}
-use Rattle.tp_model.specs.Device.{area_start}
-use Rattle.tp_model.specs.DeviceAreas.{numbered}
-use Rattle.tp_model.specs.Group.{rows_of, group_bytes}
-use Rattle.tp_model.specs.Head.{head_bytes}
-use Rattle.tp_model.specs.Opening.{Opened, groups_place, verdict}
-use Rattle.tp_model.specs.Spelling.{front_bytes}
-use Rattle.tp_law_machine.specs.OneNode.{one_node, one_before, one_after}
+use Rattle.tp_law_device.specs.Lower.{Form, Plain, Turns, Narrow, Data, Nothing, JustAck, Entry, Run, Take, Turn, Damaged, ENTRY_BYTES, GATE_OPEN, GATE_CLOSED, GROUP_HEAD_BYTES, zeros, area_start, numbered, rows_of, group_bytes, head_bytes, Opened, groups_place, verdict, front_bytes, one_node, one_before, one_after}
 use Rattle.tp_law_device.specs.OneCheckpoint.{one_areas}
 
 -- The node sends a byte and the host takes it. In one entry the node then takes the Ack and goes on.

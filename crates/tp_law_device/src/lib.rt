@@ -5,41 +5,10 @@
 mod the_copy;
 
 ghost use Rattle.std.specs.Prelude.{◌≡◌, ◌≤◌, ◌<◌, ◌+◌, ◌++◌, ◌*◌, ◌^◌, ℕ, true, false, List, [], Some, Ok, length, map, take, drop, slice_get};
-ghost use Rattle.tp_model.specs.declared.areas.TwoAreas.{TwoAreas};
-ghost use Rattle.tp_model.specs.declared.entry.Entry.{Entry};
-ghost use Rattle.tp_model.specs.declared.form.Form.{Form};
-ghost use Rattle.tp_model.specs.declared.head.HeadVersion.{HeadVersion};
-ghost use Rattle.tp_model.specs.declared.limits.TheConstants.{AREA_HEAD_BYTES};
-ghost use Rattle.tp_model.specs.NodeState.{NodeState};
-ghost use Rattle.std.specs.List.{AllByRecursion, count_by};
-ghost use Rattle.tp_model.specs.Node.{t414, t414_ends};
-ghost use Rattle.tp_model.specs.Network.{Machine, Network, Port, on_line};
-ghost use Rattle.tp_model.specs.Counted.{accepted, came_out, is_input, is_output};
-ghost use Rattle.tp_model.specs.Entries.{next, process};
-ghost use Rattle.tp_model.specs.Order.{after, AreIndependent, pre, post};
-ghost use Rattle.tp_model.specs.CutOrder.{HasOrder};
-ghost use Rattle.tp_model.specs.Markers.{markers, plain_network};
-ghost use Rattle.tp_model.specs.Topology.{Topology, is_topology};
-ghost use Rattle.tp_model.specs.Device.{fits_device};
-ghost use Rattle.tp_model.specs.Head.{head_bytes, head_length, head_of, keeps_limits, version_for};
-ghost use Rattle.tp_model.specs.Format.{start_of};
-ghost use Rattle.tp_model.specs.Journal.{cut_length, entry_room, is_full, is_full_for_cut, is_roomy, reserve, room};
-ghost use Rattle.tp_model.specs.Group.{group_length};
-ghost use Rattle.tp_model.specs.Opening.{Opened, StandsFor, held_of, next_of, verdict};
-ghost use Rattle.tp_model.specs.OpensTo.{OpensTo, book_of};
-ghost use Rattle.tp_model.specs.Spelling.{IsGroup, SpellsArea, DeviceSpells, entries_in, groups_bytes};
+ghost use Rattle.tp_law_device.specs.Lower.{TwoAreas, Entry, Form, HeadVersion, AREA_HEAD_BYTES, NodeState, AllByRecursion, count_by, t414, t414_ends, Machine, Network, Port, on_line, accepted, came_out, is_input, is_output, next, process, after, AreIndependent, pre, post, HasOrder, markers, plain_network, Topology, is_topology, fits_device, head_bytes, head_length, head_of, keeps_limits, version_for, start_of, cut_length, entry_room, is_full, is_full_for_cut, is_roomy, reserve, room, group_length, Opened, StandsFor, held_of, next_of, verdict, OpensTo, book_of, IsGroup, SpellsArea, DeviceSpells, entries_in, groups_bytes, EndsSeen, Sound, MarkedNetwork, WholeCut, count_in, whole, IsWhole, Act, acted, IsOpened, CutHolds, MayBe, AreasHold, next_number, areas_of, device_areas, has_room, other_content, other_is_open, other_start, Resting, World, Event, HasCut, Reopens, Step, BeginsFormatted, Recovers, copy_of, fresh, is_trim, reopened, IsAcknowledged, IsShown};
+ghost use Rattle.tp_model.specs.Runs.{Run};
 ghost use Rattle.tp_law_device.specs.Checkpoints.{HasCheckpoint, HasSnapshot, SpellsCopy, Switches};
 ghost use Rattle.tp_law_device.specs.FormattedWorld.{formatted_world, WasFormatted};
-ghost use Rattle.tp_model.specs.Sound.{EndsSeen, Sound};
-ghost use Rattle.tp_model.specs.Snapshot.{MarkedNetwork};
-ghost use Rattle.tp_model.specs.WholeCut.{WholeCut, count_in, whole, IsWhole};
-ghost use Rattle.tp_model.specs.Acts.{Act, acted, IsOpened, CutHolds};
-ghost use Rattle.tp_model.specs.Disk.{MayBe};
-ghost use Rattle.tp_model.specs.Areas.{AreasHold, next_number};
-ghost use Rattle.tp_model.specs.DeviceAreas.{areas_of, device_areas, has_room, other_content, other_is_open, other_start};
-ghost use Rattle.tp_model.specs.WriteOrder.{Resting};
-ghost use Rattle.tp_model.specs.Runs.{World, Event, HasCut, Reopens, Step, Run, BeginsFormatted, Recovers, copy_of, fresh, is_trim, reopened};
-ghost use Rattle.tp_model.specs.Acknowledged.{IsAcknowledged, IsShown};
 
 pub use the_copy::{
     a_device_has_a_turn, a_run_checkpoints, copies_are_spelt, copies_can_be_put, copies_open,

@@ -1,43 +1,13 @@
 //! The copy of a whole cut with its tail can be put into a device's other area, and opens to exactly that copy. The functions
 //! do nothing; their contracts are the laws.
 
-ghost use Rattle.std.specs.List.{AllByRecursion};
 ghost use Rattle.std.specs.Prelude.{◌≡◌, ◌≤◌, ◌<◌, ◌+◌, ◌-◌, ◌*◌, ◌++◌, ◌⊎◌, ℕ, Bool, false, true, List, Ok, Some, length, map, take, drop, slice_get};
+ghost use Rattle.tp_law_device.specs.Lower.{AllByRecursion, Act, CutHolds, happens, Held, gate_open, CopySpelt, tail_of, area_start, content_of, written, device_areas, has_room, other_content, other_is_open, other_start, process, IsFrozenAs, IsNode, image, image_head, page_count, entry_room, is_roomy, room, HasByte, KeptRun, Network, t414, t414_ends, NodeState, AreNumbered, opened_copy, Opened, groups_place, verdict, post, IsSized, IsThere, PiecesStand, Event, HasCut, BeginsFormatted, World, copy_of, is_trim, MarkedNetwork, entries_in, groups_bytes, Topology, is_topology, WholeCut, all_some, count_in, network_in, Resting, TwoAreas, Entry, Turns, IMAGE_HEAD_BYTES, NUMBER_LIMIT, PAGE_BYTES};
 ghost use Rattle.tp_law_device.specs.Checkpoints.{Switches};
 ghost use Rattle.tp_law_device.specs.CanPut.{CanPut};
 ghost use Rattle.tp_law_device.specs.CutSpelt.{CutSpelt};
 ghost use Rattle.tp_law_device.specs.OneCheckpoint.{OneCheckpoint};
 ghost use Rattle.tp_law_device.specs.OneTurn.{OneTurn};
-ghost use Rattle.tp_model.specs.Acts.{Act, CutHolds, happens};
-ghost use Rattle.tp_model.specs.Areas.{Held, gate_open};
-ghost use Rattle.tp_model.specs.CopySpelt.{CopySpelt};
-ghost use Rattle.tp_model.specs.CutTail.{tail_of};
-ghost use Rattle.tp_model.specs.Device.{area_start, content_of};
-ghost use Rattle.tp_model.specs.Disk.{written};
-ghost use Rattle.tp_model.specs.DeviceAreas.{device_areas, has_room, other_content, other_is_open, other_start};
-ghost use Rattle.tp_model.specs.Entries.{process};
-ghost use Rattle.tp_model.specs.FrozenAs.{IsFrozenAs};
-ghost use Rattle.tp_model.specs.Image.{IsNode, image, image_head, page_count};
-ghost use Rattle.tp_model.specs.Journal.{entry_room, is_roomy, room};
-ghost use Rattle.tp_model.specs.KeptRun.{HasByte, KeptRun};
-ghost use Rattle.tp_model.specs.Network.{Network};
-ghost use Rattle.tp_model.specs.Node.{t414, t414_ends};
-ghost use Rattle.tp_model.specs.NodeState.{NodeState};
-ghost use Rattle.tp_model.specs.Numbers.{AreNumbered};
-ghost use Rattle.tp_model.specs.OpenedCopy.{opened_copy};
-ghost use Rattle.tp_model.specs.Opening.{Opened, groups_place, verdict};
-ghost use Rattle.tp_model.specs.Order.{post};
-ghost use Rattle.tp_model.specs.PiecesStand.{IsSized, IsThere, PiecesStand};
-ghost use Rattle.tp_model.specs.Runs.{Event, HasCut, BeginsFormatted, World, copy_of, is_trim};
-ghost use Rattle.tp_model.specs.Snapshot.{MarkedNetwork};
-ghost use Rattle.tp_model.specs.Spelling.{entries_in, groups_bytes};
-ghost use Rattle.tp_model.specs.Topology.{Topology, is_topology};
-ghost use Rattle.tp_model.specs.WholeCut.{WholeCut, all_some, count_in, network_in};
-ghost use Rattle.tp_model.specs.WriteOrder.{Resting};
-ghost use Rattle.tp_model.specs.declared.areas.TwoAreas.{TwoAreas};
-ghost use Rattle.tp_model.specs.declared.entry.Entry.{Entry};
-ghost use Rattle.tp_model.specs.declared.form.Form.TheVariants.{Turns};
-ghost use Rattle.tp_model.specs.declared.limits.TheConstants.{IMAGE_HEAD_BYTES, NUMBER_LIMIT, PAGE_BYTES};
 
 /// It doesn't matter how the other area came to hold the pieces of a copy, each at its place and the tail in any groups of 1 to 64. That
 /// copy is what the area holds after its closed gate. Once the gate is open, opening answers the copy: its base, its network, the entries

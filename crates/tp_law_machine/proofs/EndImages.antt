@@ -1,17 +1,7 @@
 -- Ends of links as bytes, read back.
 use Rattle.std.proofs.Common.{◌≡◌, ℕ, zero, suc, ◌*◌, ◌^◌, ◌<◌, Bool, true, false, List, [], ◌∷◌, ◌++◌, length, get_or, drop, refl, sym, ap, ◌∙◌, append_assoc, length-append, arith, Some, None}
 use Rattle.std.specs.Prelude.{◌==◌, if◌then◌else◌, flat_map}
-use Rattle.std.specs.List.{AllByRecursion}
-use Rattle.std.specs.Int.{w32, from_le_bytes}
-use Rattle.std.proofs.Math.Seq.{drop-append_seam}
-use Rattle.std.proofs.lemmas.Nat.{from_le_bytes-to_le_bytes_4}
-use Rattle.tp_model.specs.declared.link.Transfer.{Transfer}
-use Rattle.tp_model.specs.declared.link.OutEnd.{OutEnd}
-use Rattle.tp_model.specs.declared.link.OutEnd.TheVariants.{Idle as OutIdle, Waits}
-use Rattle.tp_model.specs.declared.link.InEnd.{InEnd}
-use Rattle.tp_model.specs.declared.link.InEnd.TheVariants.{Idle as InIdle, Inputs, Enabled}
-use Rattle.tp_model.specs.EndBytes.{transfer_at, out_end_bytes, in_end_bytes, out_end_at, in_end_at, ends_at, IsTransfer, FitsOutEnd, FitsInEnd}
-use Rattle.tp_model.specs.Bytes.{u32_bytes, u8_at, u32_at}
+use Rattle.tp_law_machine.proofs.Lower.{AllByRecursion, w32, from_le_bytes, drop-append_seam, from_le_bytes-to_le_bytes_4, Transfer, OutEnd, OutIdle, Waits, InEnd, InIdle, Inputs, Enabled, transfer_at, out_end_bytes, in_end_bytes, out_end_at, in_end_at, ends_at, IsTransfer, FitsOutEnd, FitsInEnd, u32_bytes, u8_at, u32_at}
 use Rattle.tp_law_machine.specs.NodeOfBytes.{HoldsByte}
 use Rattle.tp_law_machine.proofs.Numbers.{AreBytes, byte_below, are_bytes-drop}
 

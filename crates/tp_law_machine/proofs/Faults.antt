@@ -1,10 +1,8 @@
 -- Answers that are a value or a fault, taken apart.
-use Rattle.std.proofs.Common.{◌≡◌, Bool, true, false, cond, refl, Option, Some, None, Result, Ok, Err, sym, ap, ◌∙◌}
-use Rattle.std.specs.Result.{result_ok}
+use Rattle.std.proofs.Common.{◌≡◌, Bool, true, false, cond, refl, Option, Some, None, sym, ap, ◌∙◌, ℕ}
+use Rattle.std.specs.Prelude.{Result, Ok, Err}
+use Rattle.tp_law_machine.proofs.Lower.{result_ok, or_damaged, only_if, cond_some}
 use Rattle.tp_model.specs.Results.{◌>>=◌}
-use Rattle.tp_model.specs.CutImage.{or_damaged, only_if}
-use Rattle.std.specs.Prelude.{ℕ}
-use Rattle.std.proofs.lemmas.Option.{cond_some}
 
 -- if a chain of tests gives a value, the first test gives one
 pub bind_ok : {A B E : Type 0} (first : Result A E) (f : A → Result B E) (y : B) → (first >>= f) ≡ Ok y → (x : A) × (first ≡ Ok x) × (f x ≡ Ok y)

@@ -1,14 +1,6 @@
 -- Ends that are idle are waiting for nothing, and hold nothing.
 use Rattle.std.proofs.Common.{◌≡◌, ℕ, zero, suc, true, false, List, [], ◌∷◌, refl, Some, None, slice_get}
-use Rattle.std.specs.List.{list_all}
-use Rattle.std.proofs.lemmas.Bool.{and_parts}
-use Rattle.tp_model.specs.declared.link.OutEnd.{OutEnd}
-use Rattle.tp_model.specs.declared.link.OutEnd.TheVariants.{Waits, Idle as OutIdle}
-use Rattle.tp_model.specs.declared.link.InEnd.{InEnd}
-use Rattle.tp_model.specs.declared.link.InEnd.TheVariants.{Inputs, Enabled, Idle as InIdle}
-use Rattle.tp_model.specs.LinkEnd.{is_waiting, is_holding}
-use Rattle.tp_model.specs.EndBytes.{is_idle_out, is_idle_in}
-use Rattle.tp_model.specs.Node.{waits_there, holds_there}
+use Rattle.tp_law_machine.proofs.Lower.{list_all, and_parts, OutEnd, Waits, OutIdle, InEnd, Inputs, Enabled, InIdle, is_waiting, is_holding, is_idle_out, is_idle_in, waits_there, holds_there}
 
 pub idle_out : (end : OutEnd) → is_idle_out end ≡ true → is_waiting end ≡ false
 idle_out OutIdle h = refl

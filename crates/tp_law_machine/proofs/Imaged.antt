@@ -1,12 +1,7 @@
 -- The rules of a node that has an image, one by one.
-use Rattle.std.proofs.Common.{◌≡◌, ℕ, ◌*◌, ◌%◌, ◌^◌, ◌≤◌, true, ◌&&◌, List, length, refl, arith, eqb-true}
-use Rattle.std.specs.Prelude.{◌==◌, nat_le}
-use Rattle.std.specs.List.{list_all}
-use Rattle.std.proofs.lemmas.Bool.{leb-true, le-leb, and_parts}
-use Rattle.tp_model.specs.declared.limits.TheConstants.{MIN_PAGES, MAX_PAGES, PAGE_BYTES, SLICE}
-use Rattle.tp_model.specs.EndBytes.{is_out_end, is_in_end}
-use Rattle.tp_model.specs.NodeState.{NodeState}
-use Rattle.tp_model.specs.Image.{page_count, is_memory, is_node}
+use Rattle.std.proofs.Common.{◌≡◌, ℕ, ◌*◌, ◌%◌, ◌^◌, ◌≤◌, true, List, length, refl, arith, eqb-true}
+use Rattle.std.specs.Prelude.{◌&&◌, ◌==◌, nat_le}
+use Rattle.tp_law_machine.proofs.Lower.{list_all, leb-true, le-leb, and_parts, MIN_PAGES, MAX_PAGES, PAGE_BYTES, SLICE, is_out_end, is_in_end, NodeState, page_count, is_memory, is_node}
 
 pub record Rules (node : NodeState) : Type 0 where
   pub memory : is_memory node.memory ≡ true

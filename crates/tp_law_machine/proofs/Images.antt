@@ -1,27 +1,9 @@
 -- The image of a node, read back: the node that the bytes spell.
 use Rattle.std.proofs.Common.{◌≡◌, ℕ, ◌%◌, ◌^◌, ◌<◌, ◌≤◌, Bool, true, false, List, ◌++◌, length, take, drop, refl, sym, ap, subst, ◌∙◌, append_assoc, length-append, arith, Option, Some, None}
 use Rattle.std.specs.Prelude.{not, ◌&&◌, ◌==◌, nat_le, flat_map, bytes_eq}
-use Rattle.std.specs.List.{AllByRecursion}
-use Rattle.std.proofs.Math.Seq.{take-append_seam, drop-append_seam}
-use Rattle.std.proofs.lemmas.Bool.{and_parts, leb-true}
-use Rattle.std.proofs.lemmas.List.{take-append-drop}
-use Rattle.std.proofs.lemmas.Option.{cond_some}
-use Rattle.std.proofs.lemmas.Slice.Eq.{bytes_eq-Decides}
-use Rattle.std.proofs.lemmas.Nat.{from_le_bytes-to_le_bytes_2, from_le_bytes-to_le_bytes_4}
-use Rattle.tp_model.specs.declared.processor.Cpu.{Cpu}
-use Rattle.tp_model.specs.declared.processor.Fault.{Fault}
-use Rattle.tp_model.specs.declared.processor.Fault.TheVariants.{BadAddress, UnknownOp, LongPrefix, LinkBusy}
-use Rattle.tp_model.specs.declared.processor.State.{State}
-use Rattle.tp_model.specs.declared.processor.State.TheVariants.{Idle as NoneRuns, High, Low}
-use Rattle.tp_model.specs.declared.link.OutEnd.{OutEnd}
-use Rattle.tp_model.specs.declared.link.InEnd.{InEnd}
-use Rattle.tp_model.specs.declared.limits.TheConstants.{SLICE}
-use Rattle.tp_model.specs.Word.{bit}
-use Rattle.tp_model.specs.NodeState.{NodeState}
-use Rattle.tp_model.specs.EndBytes.{out_end_bytes, in_end_bytes, out_end_at, in_end_at, ends_at, FitsOutEnd, FitsInEnd}
+use Rattle.tp_law_machine.proofs.Lower.{AllByRecursion, take-append_seam, drop-append_seam, and_parts, leb-true, take-append-drop, cond_some, bytes_eq-Decides, from_le_bytes-to_le_bytes_2, from_le_bytes-to_le_bytes_4, Cpu, Fault, BadAddress, UnknownOp, LongPrefix, LinkBusy, State, NoneRuns, High, Low, OutEnd, InEnd, SLICE, bit, NodeState, out_end_bytes, in_end_bytes, out_end_at, in_end_at, ends_at, FitsOutEnd, FitsInEnd, words_of, image_head, image, halt_byte, halt_of, state_byte, state_of, cpu_at, node_at, is_memory, is_node, node_of, IsNode}
 use Rattle.tp_law_machine.specs.NodeOfBytes.{HoldsByte, IsNodeOfBytes}
 use Rattle.tp_law_machine.proofs.Numbers.{AreBytes, are_bytes-drop}
-use Rattle.tp_model.specs.Image.{words_of, image_head, image, halt_byte, halt_of, state_byte, state_of, cpu_at, node_at, is_memory, is_node, node_of, IsNode}
 use Rattle.tp_law_machine.proofs.EndImages.{out_end_at-bytes, in_end_at-bytes, length-out_end, length-in_end, ends_back, length-ends, word_below, out_end_fits, in_end_fits, in_end_holds, ends_fit}
 
 -- ## Single fields

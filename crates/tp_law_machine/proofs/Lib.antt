@@ -1,3 +1,4 @@
+pub mod Lower
 pub mod Bits
 pub mod BytesRows
 pub mod EndImages

@@ -1,27 +1,8 @@
 -- What a node's instructions and tokens do at one end of a link, counted in Data and Acks.
 use Rattle.std.proofs.Common.{◌≡◌, ℕ, ◌+◌, Bool, true, false, List, [], ◌∷◌, refl, subst, arith, Option, Some, None}
 use Rattle.std.specs.Prelude.{◌==◌, if◌then◌else◌}
-use Rattle.std.specs.Option.{option_map}
-use Rattle.tp_model.specs.declared.link.Token.{Token}
-use Rattle.tp_model.specs.declared.link.Token.TheVariants.{Data, Ack}
-use Rattle.tp_model.specs.declared.link.Transfer.{Transfer}
-use Rattle.tp_model.specs.declared.link.OutEnd.{OutEnd}
-use Rattle.tp_model.specs.declared.link.OutEnd.TheVariants.{Waits, Idle as NoOutput}
-use Rattle.tp_model.specs.declared.link.InEnd.{InEnd}
-use Rattle.tp_model.specs.declared.link.InEnd.TheVariants.{Inputs, Enabled, Idle}
-use Rattle.tp_model.specs.declared.link.Arrival.{Arrival}
-use Rattle.tp_model.specs.declared.link.News.TheVariants.{Nobody, Process, Alternative}
-use Rattle.tp_model.specs.declared.processor.Cpu.{Cpu}
-use Rattle.tp_model.specs.declared.processor.Fault.{Fault}
-use Rattle.tp_model.specs.declared.request.OutRequest.{OutRequest}
-use Rattle.tp_model.specs.declared.request.Wish.{Wish}
-use Rattle.tp_model.specs.declared.request.Wish.TheVariants.{Message, Enable, Disable}
-use Rattle.tp_model.specs.Word.{bit}
-use Rattle.tp_model.specs.Processor.{descriptor_of}
-use Rattle.tp_model.specs.Sound.{datas, acks}
-use Rattle.tp_model.specs.Markers.{markers}
-use Rattle.tp_model.specs.LinkEnd.{is_waiting, is_holding, has_more, advanced, out_acked, filled, in_arrived}
-use Rattle.tp_model.specs.LinkStep.{LinkOutcome, Did, Fails, ◌>>=◌, begin_output, enabled, disabled, begin_input}
+use Rattle.tp_law_machine.proofs.Lower.{option_map, Token, Data, Ack, Transfer, OutEnd, Waits, NoOutput, InEnd, Inputs, Enabled, Idle, Arrival, Nobody, Process, Alternative, Cpu, Fault, OutRequest, Wish, Message, Enable, Disable, bit, descriptor_of, datas, acks, markers, is_waiting, is_holding, has_more, advanced, out_acked, filled, in_arrived, LinkOutcome, Did, Fails, begin_output, enabled, disabled, begin_input}
+use Rattle.tp_model.specs.LinkStep.{◌>>=◌}
 
 -- what leaves, as a list
 abbrev pub tokens : Option Token → List Token

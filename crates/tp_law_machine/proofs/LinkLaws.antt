@@ -1,31 +1,7 @@
 -- What the machine's step, and a token that comes in, do at the four links.
-use Rattle.std.proofs.Common.{◌≡◌, ◌≢◌, ℕ, ◌+◌, ◌<◌, Bool, true, false, cond, inl, inr, List, [], ◌∷◌, set, refl, sym, subst, ◌∙◌, arith, Option, Some, None}
-use Rattle.std.proofs.lemmas.Bool.{eq-eqb, ne_eqb, cases_Bool, cases_eq, ltb-true}
-use Rattle.std.specs.Prelude.{◌==◌, nat_lt, slice_get, is_some}
-use Rattle.std.specs.List.{AllByRecursion}
-use Rattle.tp_model.specs.declared.link.Token.{Token}
-use Rattle.tp_model.specs.declared.link.Token.TheVariants.{Data, Ack, Marker}
-use Rattle.tp_model.specs.declared.link.OutEnd.{OutEnd}
-use Rattle.tp_model.specs.declared.link.InEnd.{InEnd}
-use Rattle.tp_model.specs.declared.link.Arrival.{Arrival}
-use Rattle.tp_model.specs.declared.link.News.{News}
-use Rattle.tp_model.specs.declared.link.News.TheVariants.{Nobody, Process, Alternative}
-use Rattle.tp_model.specs.declared.processor.Cpu.{Cpu}
-use Rattle.tp_model.specs.declared.processor.Fault.TheVariants.{BadAddress}
-use Rattle.tp_model.specs.Word.{bit}
-use Rattle.tp_model.specs.Memory.{byte_at, word_at, stored}
-use Rattle.tp_model.specs.Processor.{workspace, state_at, queue_writes, queued, past}
-use Rattle.tp_model.specs.Alternative.{waiting, ready_writes}
-use Rattle.tp_model.specs.Outcome.{Outcome, Next, Halts, Rests, Sends, Receives}
-use Rattle.tp_model.specs.Step.{step_of}
-use Rattle.tp_model.specs.Network.{◌>>=◌, for_line}
-use Rattle.tp_model.specs.Entries.{HasFourLinks}
-use Rattle.tp_model.specs.Sound.{datas, acks, KeepsFlight}
-use Rattle.tp_model.specs.Markers.{is_marker, markers, NeverMarks}
-use Rattle.tp_model.specs.LinkEnd.{next_pointer, out_acked, in_arrived}
-use Rattle.tp_model.specs.LinkStep.{LinkOutcome, Did, Fails, begin_output, begin_input}
-use Rattle.tp_model.specs.NodeState.{NodeState}
-use Rattle.tp_model.specs.Node.{halted, on_link, after_output, after_input, ended, node_step, bad_address, with_memory, wake, make_ready, signal_state, tell, placed, took_token, took, t414, t414_ends, waits, holds}
+use Rattle.std.proofs.Common.{◌≡◌, ◌≢◌, ℕ, ◌+◌, ◌<◌, Bool, true, false, cond, inl, inr, List, [], ◌∷◌, set, refl, sym, subst, ◌∙◌, arith, Option, Some, None, slice_get}
+use Rattle.std.specs.Prelude.{◌==◌, nat_lt, is_some}
+use Rattle.tp_law_machine.proofs.Lower.{eq-eqb, ne_eqb, cases_Bool, cases_eq, ltb-true, AllByRecursion, Token, Data, Ack, Marker, OutEnd, InEnd, Arrival, News, Nobody, Process, Alternative, Cpu, BadAddress, bit, byte_at, word_at, stored, workspace, state_at, queue_writes, queued, past, waiting, ready_writes, Outcome, Next, Halts, Rests, Sends, Receives, step_of, ◌>>=◌, for_line, HasFourLinks, datas, acks, KeepsFlight, is_marker, markers, NeverMarks, next_pointer, out_acked, in_arrived, LinkOutcome, Did, Fails, begin_output, begin_input, NodeState, halted, on_link, after_output, after_input, ended, node_step, bad_address, with_memory, wake, make_ready, signal_state, tell, placed, took_token, took, t414, t414_ends, waits, holds}
 use Rattle.tp_law_machine.proofs.Partial.{bind_some, slice_get-set_same, slice_get-set_other}
 use Rattle.tp_law_machine.proofs.Requests.{IsInside, step_inside}
 use Rattle.tp_law_machine.proofs.LinkEnds.{tokens, OutMoves, InMoves, OutKept, InKept, Arrived, Acked, begin_output_kept, begin_input_kept, in_arrived_kept, out_acked_kept}

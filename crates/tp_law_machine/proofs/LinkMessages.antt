@@ -2,27 +2,8 @@
 -- memory.
 use Rattle.std.proofs.Common.{◌≡◌, ℕ, ◌+◌, ◌-◌, ◌^◌, ◌<◌, ◌≤◌, Bool, true, false, cond, List, [], ◌∷◌, length, refl, sym, ◌∙◌, arith, Option, Some, None}
 use Rattle.std.specs.Prelude.{◌==◌, nat_le}
-use Rattle.std.proofs.lemmas.Bool.{ltb-true, leb-true, le-leb, and_parts, ne_eqb, eqb-false}
-use Rattle.tp_model.specs.declared.processor.Cpu.{Cpu}
-use Rattle.tp_model.specs.declared.processor.Fault.{Fault}
-use Rattle.tp_model.specs.declared.link.Token.{Token}
-use Rattle.tp_model.specs.declared.link.Token.TheVariants.{Data, Ack}
-use Rattle.tp_model.specs.declared.link.Transfer.{Transfer}
-use Rattle.tp_model.specs.declared.link.OutEnd.{OutEnd}
-use Rattle.tp_model.specs.declared.link.OutEnd.TheVariants.{Idle as NoOutput, Waits}
-use Rattle.tp_model.specs.declared.link.InEnd.{InEnd}
-use Rattle.tp_model.specs.declared.link.InEnd.TheVariants.{Idle, Inputs, Enabled}
-use Rattle.tp_model.specs.declared.link.Started.{Started}
-use Rattle.tp_model.specs.declared.request.OutRequest.{OutRequest}
-use Rattle.tp_model.specs.declared.request.Wish.{Wish}
-use Rattle.tp_model.specs.declared.request.Wish.TheVariants.{Message, Enable, Disable}
-use Rattle.tp_model.specs.Word.{wrap}
-use Rattle.tp_model.specs.Memory.{offset, byte_at, word_at, is_inside, stored}
-use Rattle.tp_model.specs.Processor.{state_at, descriptor_of, without_b, save_writes, stopped}
-use Rattle.tp_model.specs.Alternative.{ready, choice_writes, chosen, passed_over}
-use Rattle.tp_model.specs.EndBytes.{is_under_way, is_out_end, is_in_end, IsTransfer, FitsOutEnd, FitsInEnd}
-use Rattle.tp_model.specs.LinkEnd.{is_waiting, advanced, has_more, filled, in_started, in_enabled, in_disabled}
-use Rattle.tp_model.specs.LinkStep.{LinkOutcome, Did, Fails, ◌>>=◌, message, with_word, with_byte, begin_output, take_up, enabled, disabled, begin_input}
+use Rattle.tp_law_machine.proofs.Lower.{ltb-true, leb-true, le-leb, and_parts, ne_eqb, eqb-false, Cpu, Fault, Token, Data, Ack, Transfer, OutEnd, NoOutput, Waits, InEnd, Idle, Inputs, Enabled, Started, OutRequest, Wish, Message, Enable, Disable, wrap, offset, byte_at, word_at, is_inside, stored, state_at, descriptor_of, without_b, save_writes, stopped, ready, choice_writes, chosen, passed_over, is_under_way, is_out_end, is_in_end, IsTransfer, FitsOutEnd, FitsInEnd, is_waiting, advanced, has_more, filled, in_started, in_enabled, in_disabled, LinkOutcome, Did, Fails, message, with_word, with_byte, begin_output, take_up, enabled, disabled, begin_input}
+use Rattle.tp_model.specs.LinkStep.{◌>>=◌}
 use Rattle.tp_law_machine.specs.NodeOfBytes.{CarriesByte, HoldsByte}
 use Rattle.tp_law_machine.proofs.Memories.{Holds, HoldsIf, same_holds, stored_holds, byte_holds, byte_read, word_read}
 use Rattle.tp_law_machine.proofs.Outcomes.{IsWish}

@@ -1,9 +1,7 @@
 -- Memory keeps its length, and what is stored in it and read from it are bytes.
 use Rattle.std.proofs.Common.{◌≡◌, ℕ, zero, suc, ◌+◌, ◌%◌, ◌^◌, ◌<◌, Bool, true, false, cond, List, [], ◌∷◌, ◌++◌, length, take, drop, refl, subst, ◌∙◌, arith, Option, Some, None, slice_get}
 use Rattle.std.specs.Prelude.{◌==◌, nat_lt, ◌&&◌, slice_range}
-use Rattle.std.specs.Option.{option_and_then}
-use Rattle.std.specs.Int.{from_le_bytes, to_le_bytes, w32}
-use Rattle.tp_model.specs.Memory.{offset, word_offset, byte_at, word_at, set_byte, set_word, byte_stored, stored, is_inside, moved, copied, changed}
+use Rattle.tp_law_machine.proofs.Lower.{option_and_then, from_le_bytes, to_le_bytes, w32, offset, word_offset, byte_at, word_at, set_byte, set_word, byte_stored, stored, is_inside, moved, copied, changed}
 use Rattle.tp_law_machine.proofs.Writes.{length-stored, length-byte_stored, length-copied, length-changed}
 use Rattle.tp_law_machine.proofs.Numbers.{AreBytes, are_bytes-take, are_bytes-drop, are_bytes-append}
 use Rattle.tp_law_machine.proofs.EndImages.{word_below}

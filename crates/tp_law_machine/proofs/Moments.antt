@@ -1,8 +1,7 @@
 -- What a crash may leave of a device: after a write, after a call that broke, and with ranges that are all inside one range.
 use Rattle.std.proofs.Common.{◌≡◌, ℕ, ◌+◌, ◌-◌, ◌<◌, ◌≤◌, ◌⊎◌, inl, inr, List, [], ◌∷◌, ◌++◌, length, take, drop, get_or, refl, sym, ap, ◌∙◌, arith, length-append, length-drop}
-use Rattle.std.proofs.lemmas.List.{length-take-le, get_or_append_left, get_or-take, get_or-append_right, get_or-drop}
-use Rattle.std.proofs.lemmas.Grind.{same_number_lists}
-use Rattle.tp_model.specs.Disk.{Moment, MayBe, IsOutside, Call, Write, Sync, Read, written, done, within, broken, IsWithin, AreWithin, SameOutside}
+use Rattle.tp_law_machine.proofs.Lower.{length-take-le, get_or_append_left, get_or-take, get_or-append_right, get_or-drop, same_number_lists, Moment, MayBe, IsOutside, Write, Sync, Read, written, done, within, broken, IsWithin, AreWithin, SameOutside}
+use Rattle.tp_model.specs.Disk.{Call}
 
 -- ## Bytes with others over them
 

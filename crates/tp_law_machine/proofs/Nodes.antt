@@ -1,33 +1,7 @@
 -- A node of words and bytes stays one, with its messages inside memory, whatever it does and takes.
 use Rattle.std.proofs.Common.{◌≡◌, ℕ, zero, suc, ◌^◌, ◌<◌, ◌≤◌, Bool, true, false, cond, List, [], ◌∷◌, ◌++◌, length, set, length-set, refl, subst, ◌∙◌, Option, Some, None, slice_get}
 use Rattle.std.specs.Prelude.{◌==◌, nat_lt, is_some}
-use Rattle.std.specs.Option.{option_map}
-use Rattle.std.specs.List.{AllByRecursion, list_all}
-use Rattle.std.proofs.lemmas.Bool.{and_parts}
-use Rattle.tp_model.specs.declared.processor.Cpu.{Cpu}
-use Rattle.tp_model.specs.declared.processor.Fault.{Fault}
-use Rattle.tp_model.specs.declared.processor.Fault.TheVariants.{BadAddress}
-use Rattle.tp_model.specs.declared.link.Token.{Token}
-use Rattle.tp_model.specs.declared.link.Token.TheVariants.{Data, Ack, Marker}
-use Rattle.tp_model.specs.declared.link.OutEnd.{OutEnd}
-use Rattle.tp_model.specs.declared.link.OutEnd.TheVariants.{Idle as NoOutput, Waits}
-use Rattle.tp_model.specs.declared.link.InEnd.{InEnd}
-use Rattle.tp_model.specs.declared.link.InEnd.TheVariants.{Idle, Inputs, Enabled}
-use Rattle.tp_model.specs.declared.link.Arrival.{Arrival}
-use Rattle.tp_model.specs.declared.link.News.{News}
-use Rattle.tp_model.specs.declared.link.News.TheVariants.{Nobody, Process, Alternative}
-use Rattle.tp_model.specs.Memory.{byte_at, word_at, stored}
-use Rattle.tp_model.specs.Processor.{workspace, state_at, queue_writes, queued, past}
-use Rattle.tp_model.specs.Alternative.{waiting, ready_writes}
-use Rattle.tp_model.specs.EndBytes.{is_out_end, is_in_end, FitsOutEnd, FitsInEnd}
-use Rattle.tp_model.specs.Image.{is_memory}
-use Rattle.tp_model.specs.LinkEnd.{advanced, has_more, filled, next_pointer, out_acked, in_arrived}
-use Rattle.tp_model.specs.LinkStep.{LinkOutcome, Did, Fails, begin_output, begin_input}
-use Rattle.tp_model.specs.Outcome.{Outcome, Next, Halts, Rests, Sends, Receives}
-use Rattle.tp_model.specs.Step.{step_of}
-use Rattle.tp_model.specs.NodeState.{NodeState}
-use Rattle.tp_model.specs.Network.{◌>>=◌, steps}
-use Rattle.tp_model.specs.Node.{halted, on_link, after_output, after_input, ended, node_step, bad_address, with_memory, wake, make_ready, signal_state, tell, placed, took_token, took, t414}
+use Rattle.tp_law_machine.proofs.Lower.{option_map, AllByRecursion, list_all, and_parts, Cpu, Fault, BadAddress, Token, Data, Ack, Marker, OutEnd, NoOutput, Waits, InEnd, Idle, Inputs, Enabled, Arrival, News, Nobody, Process, Alternative, byte_at, word_at, stored, workspace, state_at, queue_writes, queued, past, waiting, ready_writes, is_out_end, is_in_end, FitsOutEnd, FitsInEnd, is_memory, advanced, has_more, filled, next_pointer, out_acked, in_arrived, LinkOutcome, Did, Fails, begin_output, begin_input, Outcome, Next, Halts, Rests, Sends, Receives, step_of, NodeState, ◌>>=◌, steps, halted, on_link, after_output, after_input, ended, node_step, bad_address, with_memory, wake, make_ready, signal_state, tell, placed, took_token, took, t414}
 use Rattle.tp_law_machine.specs.NodeOfBytes.{CarriesByte, HoldsByte, IsNodeOfBytes, CarryBytes}
 use Rattle.tp_law_machine.proofs.Imaged.{rules_of, rules_hold, pages_hold}
 use Rattle.tp_law_machine.proofs.LinkMessages.{OutFits, InFits, out_fits, in_fits, waits_fits, no_output_fits, byte_fits, advanced_fits, filled_fits, MayCarryByte, LinkKeeps, begin_output_keeps, begin_input_keeps}

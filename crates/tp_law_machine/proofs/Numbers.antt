@@ -1,9 +1,6 @@
 -- Lists of bytes, and their numbers: a number tells how many bytes there are, and which.
 use Rattle.std.proofs.Common.{◌≡◌, ℕ, zero, suc, ◌+◌, ◌*◌, ◌^◌, ◌<◌, ◌≤◌, List, [], ◌∷◌, ◌++◌, length, get_or, take, drop, refl, sym, ap, ◌∙◌, mul_assoc, mul_comm, arith, inl, inr}
-use Rattle.std.proofs.lemmas.Bool.{cases_order}
-use Rattle.std.proofs.Math.Nat.{pow-suc, pow-le-pow_right, mul-le-mul}
-use Rattle.std.specs.List.{AllByRecursion}
-use Rattle.tp_model.specs.Bytes.{numeral, number}
+use Rattle.tp_law_machine.proofs.Lower.{cases_order, pow-suc, pow-le-pow_right, AllByRecursion, numeral, number, mul-le-mul}
 use Rattle.tp_law_machine.proofs.Partial.{all_append}
 
 abbrev pub AreBytes : List ℕ → Type 0

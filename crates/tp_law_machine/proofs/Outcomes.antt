@@ -1,32 +1,9 @@
 -- A step of the processor leaves a processor of words and a memory of bytes, as long as it was.
-use Rattle.std.proofs.Common.{◌≡◌, ℕ, ◌+◌, ◌*◌, ◌%◌, ◌^◌, ◌<◌, Bool, true, false, cond, List, [], ◌∷◌, ◌++◌, refl, arith, Option, Some, None}
-use Rattle.std.specs.Prelude.{◌==◌, drop, is_some, Result, Ok, Err, pos, int_lt}
-use Rattle.tp_model.specs.declared.instruction.Fun.{Fun}
-use Rattle.tp_model.specs.declared.instruction.Fun.TheVariants.{J, Ldlp, Ldnl, Ldl, Call, Cj, Ajw, Stl, Stnl, Opr}
-use Rattle.tp_model.specs.declared.instruction.Op.{Op}
-use Rattle.tp_model.specs.declared.instruction.Op.TheVariants.{Lb, Endp, Gcall, In, Out, Startp, Outbyte, Outword, Stopp, Ldpi, Ldpri, Ret, Lend, Disc, Diss, Runp, Sb, Gajw, Alt, Altwt, Altend, Enbc, Enbs, Move, Stoperr}
-use Rattle.tp_model.specs.declared.instruction.Instr.{Instr}
-use Rattle.tp_model.specs.declared.instruction.Regs.{Regs}
-use Rattle.tp_model.specs.declared.instruction.DecodeFault.{DecodeFault}
-use Rattle.tp_model.specs.declared.instruction.DecodeFault.TheVariants.{NeedMore, LongPrefix as TooLong, UnknownOp as NoOp}
-use Rattle.tp_model.specs.declared.processor.Cpu.{Cpu}
-use Rattle.tp_model.specs.declared.processor.Fault.{Fault}
-use Rattle.tp_model.specs.declared.processor.Queue.{Queue}
-use Rattle.tp_model.specs.declared.processor.State.{State}
-use Rattle.tp_model.specs.declared.processor.State.TheVariants.{Idle, High, Low}
-use Rattle.tp_model.specs.declared.request.ChannelWord.{ChannelWord}
-use Rattle.tp_model.specs.declared.request.ChannelWord.TheVariants.{Output, Input, Internal}
-use Rattle.tp_model.specs.declared.request.Wish.{Wish}
-use Rattle.tp_model.specs.declared.request.Wish.TheVariants.{Message, Enable, Disable}
-use Rattle.tp_model.specs.Word.{wrap, less, not_process, signed, bit}
-use Rattle.tp_model.specs.Memory.{offset, byte_at, word_at, is_inside, byte_stored, stored, copied, changed}
-use Rattle.tp_model.specs.Coding.{operand_of, op_of, decoded}
-use Rattle.tp_model.specs.Registers.{op_row, fun_row}
-use Rattle.tp_model.specs.Outcome.{Outcome, Next, Halts, Rests, Sends, Receives, ◌>>=◌, leaves}
-use Rattle.tp_model.specs.Processor.{workspace, state_at, saved_at, is_low, descriptor_of, queue_writes, rest_of_queue, started, dispatch_high, dispatch_low, save_writes, stop, past, must_slice, slice_writes, arrive, jump, kept_at, interrupt_writes, interrupt, restore}
-use Rattle.tp_model.specs.Alternative.{enabling, waiting, ready, is_alternative, none_chosen, signal_writes, altwt, choice_writes, choose}
-use Rattle.tp_model.specs.Channel.{channel_at, wait_writes, waits_first, meets, waits_for_alternative, input, output, input_at, output_at, output_word_at, enable, enable_at, disable, disable_at}
-use Rattle.tp_model.specs.Step.{local, call_writes, call, ret, startp, endp, lend, by_row, operate, operation, effect, executed, instruction, idle, in_state, step_of}
+use Rattle.std.proofs.Common.{◌≡◌, ℕ, ◌+◌, ◌*◌, ◌%◌, ◌^◌, ◌<◌, Bool, true, false, cond, List, [], ◌∷◌, ◌++◌, refl, arith, Option, Some, None, drop}
+use Rattle.std.specs.Prelude.{◌==◌, is_some, Result, Ok, Err, pos, int_lt}
+use Rattle.tp_law_machine.proofs.Lower.{Fun, J, Ldlp, Ldnl, Ldl, Call, Cj, Ajw, Stl, Stnl, Opr, Op, Lb, Endp, Gcall, In, Out, Startp, Outbyte, Outword, Stopp, Ldpi, Ldpri, Ret, Lend, Disc, Diss, Runp, Sb, Gajw, Alt, Altwt, Altend, Enbc, Enbs, Move, Stoperr, Instr, Regs, DecodeFault, NeedMore, TooLong, NoOp, Cpu, Fault, Queue, State, High, Low, ChannelWord, Output, Input, Internal, Wish, Message, Enable, Disable, wrap, less, not_process, signed, bit, offset, byte_at, word_at, is_inside, byte_stored, stored, copied, changed, operand_of, op_of, decoded, op_row, fun_row, Outcome, Next, Halts, Rests, Sends, Receives, leaves, workspace, state_at, saved_at, is_low, descriptor_of, queue_writes, rest_of_queue, started, dispatch_high, dispatch_low, save_writes, stop, past, must_slice, slice_writes, arrive, jump, kept_at, interrupt_writes, interrupt, restore, enabling, waiting, ready, is_alternative, none_chosen, signal_writes, altwt, choice_writes, choose, channel_at, wait_writes, waits_first, meets, waits_for_alternative, input, output, input_at, output_at, output_word_at, enable, enable_at, disable, disable_at, local, call_writes, call, ret, startp, endp, lend, by_row, operate, operation, effect, executed, instruction, idle, in_state, step_of}
+use Rattle.tp_model.specs.declared.processor.State.TheVariants.{Idle}
+use Rattle.tp_model.specs.Outcome.{◌>>=◌}
 use Rattle.tp_law_machine.proofs.Memories.{Holds, HoldsIf, stored_holds, byte_holds, copied_holds, changed_holds, byte_read, word_read}
 use Rattle.tp_law_machine.proofs.Processors.{IsCpu, IsQueue, IsWorkspace, is_workspace, with_regs_cpu, with_a_cpu, without_b_cpu, passed_over_cpu, chosen_cpu, with_wptr_cpu, goto_cpu, state_cpu, past_cpu, stopped_cpu, sliced_cpu, queued_cpu, signalled_cpu, started_cpu, high_cpu, low_cpu, restored_cpu, RestsQueue, rest_is_queue}
 use Rattle.tp_law_machine.proofs.Rows.{KeepsWords, pushed, popped, op_words, fun_words}

@@ -1,9 +1,6 @@
 -- Partial functions taken apart, and elements of a list that may not be there.
 use Rattle.std.proofs.Common.{◌≡◌, ◌≢◌, ℕ, zero, suc, Bool, true, false, cond, List, [], ◌∷◌, ◌++◌, set, refl, ap, subst, Option, Some, None, slice_get}
-use Rattle.std.specs.List.{AllByRecursion, list_all}
-use Rattle.std.specs.Option.{option_map}
-use Rattle.std.proofs.lemmas.Bool.{and_parts}
-use Rattle.tp_model.specs.Network.{◌>>=◌}
+use Rattle.tp_law_machine.proofs.Lower.{AllByRecursion, list_all, option_map, and_parts, ◌>>=◌}
 
 -- what a chain of partial functions gives, its first one gives too
 pub bind_some : {A B : Type 0} (first : Option A) (f : A → Option B) (y : B) → (first >>= f) ≡ Some y → (x : A) × (first ≡ Some x) × (f x ≡ Some y)

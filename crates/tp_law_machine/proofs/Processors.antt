@@ -1,18 +1,7 @@
 -- A processor of words, and what keeps it one.
 use Rattle.std.proofs.Common.{◌≡◌, ℕ, ◌+◌, ◌%◌, ◌^◌, ◌<◌, ◌≤◌, Bool, true, false, cond, List, refl, subst, arith, Option, Some}
 use Rattle.std.specs.Prelude.{◌==◌, nat_lt}
-use Rattle.std.specs.Option.{option_map}
-use Rattle.std.proofs.lemmas.Bool.{ltb-true}
-use Rattle.tp_model.specs.declared.instruction.Regs.{Regs}
-use Rattle.tp_model.specs.declared.processor.Cpu.{Cpu}
-use Rattle.tp_model.specs.declared.processor.Fault.{Fault}
-use Rattle.tp_model.specs.declared.processor.Queue.{Queue}
-use Rattle.tp_model.specs.declared.processor.State.{State}
-use Rattle.tp_model.specs.declared.limits.TheConstants.{SLICE}
-use Rattle.tp_model.specs.Word.{not_process, bit}
-use Rattle.tp_model.specs.Memory.{word_at}
-use Rattle.tp_model.specs.Processor.{workspace, has_low_priority, link_at, is_low, descriptor_of, with_regs, with_a, without_b, with_wptr, goto, joined, queued, rest_of_queue, emptied, stopped, counted, past, sliced}
-use Rattle.tp_model.specs.Alternative.{waiting, none_chosen, signalled, chosen, passed_over}
+use Rattle.tp_law_machine.proofs.Lower.{option_map, ltb-true, Regs, Cpu, Fault, Queue, State, SLICE, not_process, bit, word_at, workspace, has_low_priority, link_at, is_low, descriptor_of, with_regs, with_a, without_b, with_wptr, goto, joined, queued, rest_of_queue, emptied, stopped, counted, past, sliced, waiting, none_chosen, signalled, chosen, passed_over}
 use Rattle.tp_law_machine.proofs.Memories.{Holds, word_read}
 use Rattle.tp_law_machine.proofs.Partial.{map_some}
 use Rattle.tp_law_machine.proofs.Rows.{AreWords, put_a}

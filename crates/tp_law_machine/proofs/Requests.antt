@@ -1,29 +1,9 @@
 -- The processor asks for links 0 to 3 and for no other.
-use Rattle.std.proofs.Common.{ℕ, ◌-◌, ◌/◌, ◌<◌, Bool, true, false, inl, inr, List, [], ◌∷◌, arith, Option, Some, None}
-use Rattle.std.proofs.lemmas.Bool.{cases_Bool, ltb-true}
-use Rattle.std.specs.Prelude.{◌==◌, nat_lt, if◌then◌else◌, drop, is_some, Result, Ok, Err}
-use Rattle.tp_model.specs.declared.instruction.Fun.{Fun}
-use Rattle.tp_model.specs.declared.instruction.Fun.TheVariants.{J, Ldlp, Ldnl, Ldl, Call, Cj, Ajw, Stl, Stnl, Opr}
-use Rattle.tp_model.specs.declared.instruction.Op.{Op}
-use Rattle.tp_model.specs.declared.instruction.Op.TheVariants.{Lb, Endp, Gcall, In, Out, Startp, Outbyte, Outword, Stopp, Ldpi, Ldpri, Ret, Lend, Disc, Diss, Runp, Sb, Gajw, Alt, Altwt, Altend, Enbc, Enbs, Move, Stoperr}
-use Rattle.tp_model.specs.declared.instruction.Instr.{Instr}
-use Rattle.tp_model.specs.declared.instruction.Regs.{Regs}
-use Rattle.tp_model.specs.declared.instruction.DecodeFault.{DecodeFault}
-use Rattle.tp_model.specs.declared.instruction.DecodeFault.TheVariants.{NeedMore, LongPrefix as TooLong, UnknownOp as NoOp}
-use Rattle.tp_model.specs.declared.processor.Cpu.{Cpu}
-use Rattle.tp_model.specs.declared.processor.Fault.{Fault}
-use Rattle.tp_model.specs.declared.processor.State.{State}
-use Rattle.tp_model.specs.declared.processor.State.TheVariants.{Idle, High, Low}
-use Rattle.tp_model.specs.declared.request.ChannelWord.{ChannelWord}
-use Rattle.tp_model.specs.declared.request.ChannelWord.TheVariants.{Output, Input, Internal}
-use Rattle.tp_model.specs.Word.{not_process}
-use Rattle.tp_model.specs.Memory.{offset, word_offset, stored}
-use Rattle.tp_model.specs.Coding.{operand_of, op_of, decoded}
-use Rattle.tp_model.specs.Registers.{op_row, fun_row}
-use Rattle.tp_model.specs.Outcome.{Outcome, Next, Halts, Rests, Sends, Receives, ◌>>=◌, leaves}
-use Rattle.tp_model.specs.Processor.{interrupt}
-use Rattle.tp_model.specs.Channel.{channel_at, input, output, input_at, output_at, output_word_at, enable, enable_at, disable, disable_at}
-use Rattle.tp_model.specs.Step.{by_row, operate, operation, effect, executed, instruction, in_state, step_of}
+use Rattle.std.proofs.Common.{ℕ, ◌-◌, ◌/◌, ◌<◌, Bool, true, false, inl, inr, List, [], ◌∷◌, arith, Option, Some, None, drop}
+use Rattle.std.specs.Prelude.{◌==◌, nat_lt, if◌then◌else◌, is_some, Result, Ok, Err}
+use Rattle.tp_law_machine.proofs.Lower.{cases_Bool, ltb-true, Fun, J, Ldlp, Ldnl, Ldl, Call, Cj, Ajw, Stl, Stnl, Opr, Op, Lb, Endp, Gcall, In, Out, Startp, Outbyte, Outword, Stopp, Ldpi, Ldpri, Ret, Lend, Disc, Diss, Runp, Sb, Gajw, Alt, Altwt, Altend, Enbc, Enbs, Move, Stoperr, Instr, Regs, DecodeFault, NeedMore, TooLong, NoOp, Cpu, Fault, State, High, Low, ChannelWord, Output, Input, Internal, not_process, offset, word_offset, stored, operand_of, op_of, decoded, op_row, fun_row, Outcome, Next, Halts, Rests, Sends, Receives, leaves, interrupt, channel_at, input, output, input_at, output_at, output_word_at, enable, enable_at, disable, disable_at, by_row, operate, operation, effect, executed, instruction, in_state, step_of}
+use Rattle.tp_model.specs.declared.processor.State.TheVariants.{Idle}
+use Rattle.tp_model.specs.Outcome.{◌>>=◌}
 
 -- what an outcome asks of a link is asked of one of the four
 abbrev pub AsksInside : Outcome → Type 0

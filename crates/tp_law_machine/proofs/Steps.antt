@@ -1,7 +1,6 @@
 -- Steps after others that send nothing.
 use Rattle.std.proofs.Common.{◌≡◌, ℕ, zero, suc, ◌+◌, List, [], ◌∷◌, ◌++◌, Option, Some, None, refl, sym, ap, ◌∙◌, arith}
-use Rattle.tp_model.specs.Network.{◌>>=◌, Machine, steps}
-use Rattle.tp_model.specs.declared.link.Token.{Token}
+use Rattle.tp_law_machine.proofs.Lower.{◌>>=◌, Machine, steps, Token}
 
 inner : {A : Type 0} (x y : A) → Some x ≡ Some y → x ≡ y
 inner x y is = cc

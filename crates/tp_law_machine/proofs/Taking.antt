@@ -1,25 +1,7 @@
 -- A node that has an image can take each token that its ends wait for.
 use Rattle.std.proofs.Common.{◌≡◌, ℕ, ◌+◌, ◌^◌, ◌<◌, ◌≤◌, Bool, true, false, cond, List, length, set, get_or, refl, sym, arith, Option, Some, None, IsSome, slice_get}
 use Rattle.std.specs.Prelude.{◌==◌, nat_le}
-use Rattle.std.specs.Option.{option_map}
-use Rattle.std.proofs.lemmas.Bool.{lt-ltb, leb-true, and_parts, ne_eqb, true≢false}
-use Rattle.std.proofs.lemmas.Option.{slice_get-get_or}
-use Rattle.tp_model.specs.declared.link.Token.{Token}
-use Rattle.tp_model.specs.declared.link.Token.TheVariants.{Data, Ack}
-use Rattle.tp_model.specs.declared.link.Transfer.{Transfer}
-use Rattle.tp_model.specs.declared.link.OutEnd.{OutEnd}
-use Rattle.tp_model.specs.declared.link.OutEnd.TheVariants.{Idle as NoOutput, Waits}
-use Rattle.tp_model.specs.declared.link.InEnd.{InEnd}
-use Rattle.tp_model.specs.declared.link.InEnd.TheVariants.{Idle, Inputs, Enabled}
-use Rattle.tp_model.specs.declared.link.Arrival.{Arrival}
-use Rattle.tp_model.specs.declared.link.News.TheVariants.{Nobody, Process}
-use Rattle.tp_model.specs.Memory.{offset, byte_at, is_inside}
-use Rattle.tp_model.specs.EndBytes.{is_out_end, is_in_end}
-use Rattle.tp_model.specs.Image.{IsNode}
-use Rattle.tp_model.specs.LinkEnd.{is_waiting, is_holding, advanced, has_more, next_pointer, out_acked, in_arrived}
-use Rattle.tp_model.specs.NodeState.{NodeState}
-use Rattle.tp_model.specs.Network.{◌>>=◌}
-use Rattle.tp_model.specs.Node.{on_link, tell, placed, took, waits, holds}
+use Rattle.tp_law_machine.proofs.Lower.{option_map, lt-ltb, leb-true, and_parts, ne_eqb, true≢false, slice_get-get_or, Token, Data, Ack, Transfer, OutEnd, NoOutput, Waits, InEnd, Idle, Inputs, Enabled, Arrival, Nobody, Process, offset, byte_at, is_inside, is_out_end, is_in_end, IsNode, is_waiting, is_holding, advanced, has_more, next_pointer, out_acked, in_arrived, NodeState, ◌>>=◌, on_link, tell, placed, took, waits, holds}
 use Rattle.tp_law_machine.proofs.Imaged.{rules_of, pages_hold}
 use Rattle.tp_law_machine.proofs.LinkMessages.{advanced_inside}
 use Rattle.tp_law_machine.proofs.Partial.{list_all_at}

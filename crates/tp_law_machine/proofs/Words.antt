@@ -1,18 +1,8 @@
 -- What the machine computes fits a word.
 use Rattle.std.proofs.Common.{◌≡◌, ℕ, ◌+◌, ◌*◌, ◌/◌, ◌%◌, ◌^◌, ◌<◌, Bool, true, false, cond, List, [], ◌∷◌, sym, subst, arith, Option, Some, None}
 use Rattle.std.specs.Prelude.{◌==◌, nat_lt, is_some, ℤ, pos, negsuc, Result, Ok, Err}
-use Rattle.std.specs.Int.{cast_unsigned, int_wrap, w32}
-use Rattle.std.specs.Int.RustNames.{FitsSigned}
-use Rattle.std.proofs.Math.Nat.{div-le_self}
-use Rattle.std.proofs.lemmas.Int.{of_z-to_z, SFits-int_wrap}
-use Rattle.tp_model.specs.declared.instruction.Fun.{Fun}
-use Rattle.tp_model.specs.declared.instruction.Fun.TheVariants.{Opr}
-use Rattle.tp_model.specs.declared.instruction.Instr.{Instr}
-use Rattle.tp_model.specs.declared.instruction.DecodeFault.{DecodeFault}
+use Rattle.tp_law_machine.proofs.Lower.{cast_unsigned, int_wrap, w32, FitsSigned, div-le_self, of_z-to_z, SFits-int_wrap, Fun, Opr, Instr, DecodeFault, wrap, less, signed, word_of, bit, operand_of, op_of, fun_of, is_prefix, prefixed, instr_at, reads, shl, shr}
 use Rattle.tp_model.specs.declared.instruction.DecodeFault.TheVariants.{LongPrefix, UnknownOp}
-use Rattle.tp_model.specs.Word.{wrap, less, signed, word_of, bit}
-use Rattle.tp_model.specs.Coding.{operand_of, op_of, fun_of, is_prefix, prefixed, instr_at, reads}
-use Rattle.tp_model.specs.Registers.{shl, shr}
 
 -- ## Arithmetic
 

@@ -1,9 +1,7 @@
 -- Writes to memory keep its length.
-use Rattle.std.proofs.Common.{◌≡◌, ℕ, ◌+◌, ◌%◌, ◌<◌, ◌≤◌, true, ◌&&◌, cond, List, [], ◌∷◌, length, Option, Some, None, ltb, eqb, sym, refl, ap, ◌∙◌, arith, rules}
-use Rattle.std.specs.Prelude.{option_and_then}
-use Rattle.std.proofs.lemmas.Bool.{cond_both, ltb-true, leb-true, and_parts}
-use Rattle.std.proofs.lemmas.Grind.{common_steps}
-use Rattle.tp_model.specs.Memory.{offset, word_offset, set_byte, set_word, byte_stored, stored, is_inside, moved, copied, changed}
+use Rattle.std.proofs.Common.{◌≡◌, ℕ, ◌+◌, ◌%◌, ◌<◌, ◌≤◌, true, cond, List, [], ◌∷◌, length, Option, Some, None, ltb, eqb, sym, refl, ap, ◌∙◌, arith, rules}
+use Rattle.std.specs.Prelude.{◌&&◌, option_and_then}
+use Rattle.tp_law_machine.proofs.Lower.{cond_both, ltb-true, leb-true, and_parts, common_steps, offset, word_offset, set_byte, set_word, byte_stored, stored, is_inside, moved, copied, changed}
 
 -- a word that begins inside memory of whole words ends inside it
 pub word_within : (address n : ℕ) → n % 4 ≡ 0 → word_offset address < n → word_offset address + 4 ≤ n

@@ -1,13 +1,6 @@
 -- A byte each way on one wire: on the line that the node sends, Data follows an Ack.
 use Rattle.std.specs.Prelude.{List, [], ◌∷◌}
-use Rattle.tp_model.specs.declared.link.Token.TheVariants.{Data, Ack}
-use Rattle.tp_model.specs.declared.link.OutEnd.TheVariants.{Waits}
-use Rattle.tp_model.specs.declared.entry.Entry.{Entry}
-use Rattle.tp_model.specs.declared.entry.Entry.TheVariants.{Run, Take, HostIn}
-use Rattle.tp_model.specs.NodeState.{NodeState}
-use Rattle.tp_model.specs.Network.{Network}
-use Rattle.tp_model.specs.Opening.{network_of}
-use Rattle.tp_model.specs.Format.{fresh_port}
+use Rattle.tp_law_machine.specs.Lower.{Data, Ack, Waits, Entry, Run, Take, HostIn, NodeState, Network, network_of, fresh_port}
 use Rattle.tp_law_machine.specs.Start.{resting, running, blank, with_bytes, start_word, transfer, outputs, node}
 use Rattle.tp_law_machine.specs.OneNode.{one_node}
 

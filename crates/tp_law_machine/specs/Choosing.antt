@@ -1,9 +1,6 @@
 -- An alternative of two branches: one waits for a byte of link 0, the other for nobody.
 use Rattle.std.specs.Prelude.{ℕ, List, [], ◌∷◌, Some}
-use Rattle.tp_model.specs.declared.processor.Queue.{Queue}
-use Rattle.tp_model.specs.declared.processor.Fault.TheVariants.{BadAddress}
-use Rattle.tp_model.specs.declared.link.InEnd.TheVariants.{Idle, Enabled}
-use Rattle.tp_model.specs.NodeState.{NodeState}
+use Rattle.tp_law_machine.specs.Lower.{Queue, BadAddress, Idle, Enabled, NodeState}
 use Rattle.tp_law_machine.specs.Start.{regs, queue, resting, running, blank, with_bytes, start_word, inputs, node}
 
 -- `alt`, `ldl 1`, `ldc 1`, `enbc`, `ldc 1`, `enbs`, `altwt`, and then `ldc 1`, `ldc 0`, `diss`, `stl 2`, `ldl 1`, `ldc 1`,

@@ -1,3 +1,4 @@
+pub mod Lower
 pub mod BothWays
 pub mod Choosing
 pub mod Counts

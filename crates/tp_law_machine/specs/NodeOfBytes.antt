@@ -1,12 +1,6 @@
 -- A node that has an image and keeps one, whatever it does.
 use Rattle.std.specs.Prelude.{ℕ, ◌<◌, List, Some, None}
-use Rattle.std.specs.List.{AllByRecursion}
-use Rattle.tp_model.specs.declared.link.Token.{Token}
-use Rattle.tp_model.specs.declared.link.Token.TheVariants.{Data, Ack, Marker}
-use Rattle.tp_model.specs.declared.link.InEnd.{InEnd}
-use Rattle.tp_model.specs.declared.link.InEnd.TheVariants.{Idle, Inputs, Enabled}
-use Rattle.tp_model.specs.Image.{IsNode}
-use Rattle.tp_model.specs.NodeState.{NodeState}
+use Rattle.tp_law_machine.specs.Lower.{AllByRecursion, Token, Data, Ack, Marker, InEnd, Idle, Inputs, Enabled, IsNode, NodeState}
 
 -- what a token carries is a byte
 abbrev pub CarriesByte : Token → Type 0

@@ -1,18 +1,6 @@
 -- Devices with areas of 16,384 bytes, for the network of one node.
 use Rattle.std.specs.Prelude.{ℕ, false, List, [], ◌∷◌, ◌++◌}
-use Rattle.tp_model.specs.declared.areas.TwoAreas.{TwoAreas}
-use Rattle.tp_model.specs.declared.form.Form.{Form}
-use Rattle.tp_model.specs.declared.form.Form.TheVariants.{Turns}
-use Rattle.tp_model.specs.declared.head.HeadVersion.{HeadVersion}
-use Rattle.tp_model.specs.declared.head.HeadVersion.TheVariants.{Narrow}
-use Rattle.tp_model.specs.declared.limits.TheConstants.{GATE_OPEN}
-use Rattle.tp_model.specs.Bytes.{padded}
-use Rattle.tp_model.specs.Group.{rows_of, group_bytes}
-use Rattle.tp_model.specs.Device.{areas_end}
-use Rattle.tp_model.specs.Head.{head_bytes, areas_of_length}
-use Rattle.tp_model.specs.Spelling.{front_bytes}
-use Rattle.tp_model.specs.Opening.{Opened}
-use Rattle.tp_model.specs.DeviceAreas.{numbered}
+use Rattle.tp_law_machine.specs.Lower.{TwoAreas, Form, Turns, HeadVersion, Narrow, GATE_OPEN, padded, rows_of, group_bytes, areas_end, head_bytes, areas_of_length, front_bytes, Opened, numbered}
 use Rattle.tp_law_machine.specs.OneNode.{one_node, one_before, one_byte, one_after}
 
 -- the areas after a head of this version

@@ -1,14 +1,6 @@
 -- A network of one node, whose link 0 is wired to port 0.
 use Rattle.std.specs.Prelude.{List, [], ◌∷◌, None, Some}
-use Rattle.tp_model.specs.declared.wire.WireEnd.TheVariants.{Link, Port as AtPort}
-use Rattle.tp_model.specs.declared.link.Token.TheVariants.{Data, Ack}
-use Rattle.tp_model.specs.declared.entry.Entry.{Entry}
-use Rattle.tp_model.specs.declared.entry.Entry.TheVariants.{Run, Take}
-use Rattle.tp_model.specs.NodeState.{NodeState}
-use Rattle.tp_model.specs.Network.{Network}
-use Rattle.tp_model.specs.Topology.{Topology}
-use Rattle.tp_model.specs.Opening.{network_of}
-use Rattle.tp_model.specs.Format.{fresh_port}
+use Rattle.tp_law_machine.specs.Lower.{Link, AtPort, Data, Ack, Entry, Run, Take, NodeState, Network, Topology, network_of, fresh_port}
 use Rattle.tp_law_machine.specs.Transfers.{sending_node, jumps}
 
 abbrev pub one_node : Topology

@@ -1,7 +1,6 @@
 -- Processes of one node: an interrupt, a loop.
 use Rattle.std.specs.Prelude.{ℕ, [], ◌∷◌}
-use Rattle.tp_model.specs.declared.instruction.Regs.{Regs}
-use Rattle.tp_model.specs.NodeState.{NodeState}
+use Rattle.tp_law_machine.specs.Lower.{Regs, NodeState}
 use Rattle.tp_law_machine.specs.Start.{regs, queue, running, blank, with_bytes, start_word, node}
 
 -- A low process runs a high one, whose descriptor is in its first local word, by `ldl 1` and `runp`. The high one has

@@ -1,18 +1,7 @@
 -- Nodes to begin worked examples with: four pages of memory, idle links, empty queues.
 use Rattle.std.specs.Prelude.{ℕ, ◌+◌, false, List, [], ◌∷◌, ◌++◌, length, take, drop, None}
-use Rattle.tp_model.specs.declared.instruction.Regs.{Regs}
-use Rattle.tp_model.specs.declared.processor.Cpu.{Cpu}
-use Rattle.tp_model.specs.declared.processor.Queue.{Queue}
-use Rattle.tp_model.specs.declared.processor.State.TheVariants.{Idle, Low}
-use Rattle.tp_model.specs.declared.link.Transfer.{Transfer}
-use Rattle.tp_model.specs.declared.link.OutEnd.{OutEnd}
-use Rattle.tp_model.specs.declared.link.OutEnd.TheVariants.{Idle as NoOutput}
-use Rattle.tp_model.specs.declared.link.InEnd.{InEnd}
-use Rattle.tp_model.specs.declared.link.InEnd.TheVariants.{Idle as NoInput}
-use Rattle.tp_model.specs.Word.{not_process}
-use Rattle.tp_model.specs.Bytes.{zeros}
-use Rattle.tp_model.specs.Memory.{offset, set_word}
-use Rattle.tp_model.specs.NodeState.{NodeState}
+use Rattle.tp_law_machine.specs.Lower.{Regs, Cpu, Queue, Low, Transfer, OutEnd, NoOutput, InEnd, NoInput, not_process, zeros, offset, set_word, NodeState}
+use Rattle.tp_model.specs.declared.processor.State.TheVariants.{Idle}
 
 -- three registers without Error, a queue from its first process to its last one, and one without any
 abbrev pub regs : ℕ → ℕ → ℕ → Regs

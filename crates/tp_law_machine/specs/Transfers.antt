@@ -1,9 +1,6 @@
 -- Messages on link 0.
 use Rattle.std.specs.Prelude.{ℕ, List, [], ◌∷◌, None}
-use Rattle.tp_model.specs.declared.link.OutEnd.TheVariants.{Idle as NoOutput, Waits}
-use Rattle.tp_model.specs.declared.link.InEnd.{InEnd}
-use Rattle.tp_model.specs.declared.link.InEnd.TheVariants.{Idle, Inputs}
-use Rattle.tp_model.specs.NodeState.{NodeState}
+use Rattle.tp_law_machine.specs.Lower.{NoOutput, Waits, InEnd, Idle, Inputs, NodeState}
 use Rattle.tp_law_machine.specs.Start.{regs, queue, resting, running, blank, with_bytes, start_word, transfer, outputs, inputs, node}
 
 -- A low process sends the byte 41 on link 0, and then jumps to where it is: `ldc MostNeg`, `ldc 41`, `outbyte`, `j -2`.

@@ -1,17 +1,7 @@
 -- A snapshot of two nodes, with a byte on its way from the one to the other. Link 0 of node 0 is wired to link 0 of node 1, and link 3 of
 -- node 0 to port 0.
 use Rattle.std.specs.Prelude.{List, [], ◌∷◌, replicate, None, Some}
-use Rattle.tp_model.specs.declared.wire.WireEnd.TheVariants.{Link, Port as AtPort}
-use Rattle.tp_model.specs.declared.link.Token.TheVariants.{Data}
-use Rattle.tp_model.specs.declared.link.InEnd.TheVariants.{Idle}
-use Rattle.tp_model.specs.declared.entry.Entry.TheVariants.{Run, Take}
-use Rattle.tp_model.specs.NodeState.{NodeState}
-use Rattle.tp_model.specs.Network.{Network}
-use Rattle.tp_model.specs.Topology.{Topology}
-use Rattle.tp_model.specs.Opening.{network_of}
-use Rattle.tp_model.specs.Format.{fresh_port}
-use Rattle.tp_model.specs.Snapshot.{MarkedNetwork}
-use Rattle.tp_model.specs.Acts.{Act, Begin, Record, Journal, Close, Trim}
+use Rattle.tp_law_machine.specs.Lower.{Link, AtPort, Data, Idle, Run, Take, NodeState, Network, Topology, network_of, fresh_port, MarkedNetwork, Act, Begin, Record, Journal, Close, Trim}
 use Rattle.tp_law_machine.specs.Start.{resting, blank, inputs, node}
 use Rattle.tp_law_machine.specs.Transfers.{sending_node, awaits}
 

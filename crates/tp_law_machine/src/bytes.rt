@@ -1,11 +1,7 @@
 //! Laws of bytes: images and nodes, images and numbers, tokens. The functions do nothing; their contracts are the laws.
 
 ghost use Rattle.std.specs.Prelude.{◌≡◌, ◌<◌, ℕ, List};
-ghost use Rattle.std.specs.List.{AllByRecursion};
-ghost use Rattle.tp_model.specs.Bytes.{number};
-ghost use Rattle.tp_model.specs.NodeState.{NodeState};
-ghost use Rattle.tp_model.specs.Image.{image, node_of, IsNode};
-ghost use Rattle.tp_model.specs.declared.link.Token.TheVariants.{Data};
+ghost use Rattle.tp_law_machine.specs.Lower.{AllByRecursion, number, NodeState, image, node_of, IsNode, Data};
 
 use tp_model::Token;
 

@@ -1,17 +1,9 @@
 //! Laws of the machine: what it does at its links in one step, and when a token comes in. The functions do nothing;
 //! their contracts are the laws.
 
-ghost use Rattle.std.specs.List.{AllByRecursion};
 ghost use Rattle.std.specs.Prelude.{◌≡◌, ◌<◌, ℕ, List, Some};
+ghost use Rattle.tp_law_machine.specs.Lower.{AllByRecursion, HasFourLinks, node_of, NeverMarks, steps, t414, t414_ends, took, NodeState, KeepsFlight, Token};
 ghost use Rattle.tp_law_machine.specs.NodeOfBytes.{CarriesByte, CarryBytes, IsNodeOfBytes};
-ghost use Rattle.tp_model.specs.Entries.{HasFourLinks};
-ghost use Rattle.tp_model.specs.Image.{node_of};
-ghost use Rattle.tp_model.specs.Markers.{NeverMarks};
-ghost use Rattle.tp_model.specs.Network.{steps};
-ghost use Rattle.tp_model.specs.Node.{t414, t414_ends, took};
-ghost use Rattle.tp_model.specs.NodeState.{NodeState};
-ghost use Rattle.tp_model.specs.Sound.{KeepsFlight};
-ghost use Rattle.tp_model.specs.declared.link.Token.{Token};
 
 /// Tokens leave on links 0 to 3 and on no other.
 pub fn machine_has_four_links()

@@ -1,17 +1,8 @@
 -- What a host may rely on. Entries of an acknowledged receipt, and the causes of output that is shown, are in the journal for good, and in
 -- what any crash leaves.
 use Rattle.std.proofs.Common.{◌≡◌, ℕ, ◌+◌, ◌<◌, ◌≤◌, false, List, [], ◌∷◌, ◌++◌, length, take, refl, sym, ap, subst, ◌∙◌, arith, append_assoc, append-nil}
-use Rattle.std.specs.List.{AllByRecursion}
-use Rattle.std.proofs.lemmas.List.{take-append-le, take-take}
-use Rattle.tp_model.specs.declared.entry.Entry.{Entry}
-use Rattle.tp_model.specs.Network.{Machine, Network}
-use Rattle.tp_model.specs.Entries.{HasFourLinks}
-use Rattle.tp_model.specs.Markers.{NeverMarks}
-use Rattle.tp_model.specs.Acts.{Act, Begin, Record, Journal, Close, Trim, IsOpened}
-use Rattle.tp_model.specs.Disk.{MayBe}
-use Rattle.tp_model.specs.Areas.{Areas, AreasHold, next_number}
-use Rattle.tp_model.specs.Runs.{World, Event, Acts, Copies, CopiesTail, Does, Breaks, Trims, Raises, Reads, Reopens, grown, Step, Run, fresh, BeginsFormatted, Recovers}
-use Rattle.tp_model.specs.Acknowledged.{is_reopening, IsAcknowledged, IsShown}
+use Rattle.tp_law_network.proofs.Lower.{AllByRecursion, take-append-le, take-take, Entry, Machine, Network, HasFourLinks, NeverMarks, Act, Begin, Record, Journal, Close, Trim, IsOpened, MayBe, Areas, AreasHold, next_number, World, Event, Acts, Copies, CopiesTail, Does, Breaks, Trims, Raises, Reads, Reopens, grown, Step, fresh, BeginsFormatted, Recovers, is_reopening, IsAcknowledged, IsShown}
+use Rattle.tp_model.specs.Runs.{Run}
 use Rattle.tp_law_network.proofs.Invariant.{Inv}
 use Rattle.tp_law_network.proofs.Runs.{reads_now, run_keeps, formatted_run}
 use Rattle.tp_law_network.proofs.Stay.{run_stays}

@@ -1,14 +1,7 @@
 -- Acts taken apart: what each needs, and what it leads to.
 use Rattle.std.proofs.Common.{◌≡◌, ℕ, ◌<◌, true, false, not, List, length, refl, Option, Some, None}
 use Rattle.std.specs.Prelude.{nat_lt, ◌&&◌}
-use Rattle.std.proofs.lemmas.Bool.{and_parts, not-true, ltb-true}
-use Rattle.tp_model.specs.declared.entry.Entry.{Entry}
-use Rattle.tp_model.specs.Network.{◌>>=◌, Machine, Network, on_line}
-use Rattle.tp_model.specs.Entries.{next}
-use Rattle.tp_model.specs.Markers.{has_marker}
-use Rattle.tp_model.specs.Snapshot.{Snapshot, MarkedNetwork, has_recorded, taker, begun, recorded, journalled, line_closed}
-use Rattle.tp_model.specs.WholeCut.{WholeCut, trimmed}
-use Rattle.tp_model.specs.Acts.{begin, record_node, close_line, trim}
+use Rattle.tp_law_network.proofs.Lower.{and_parts, not-true, ltb-true, Entry, ◌>>=◌, Machine, Network, on_line, next, has_marker, Snapshot, MarkedNetwork, has_recorded, taker, begun, recorded, journalled, line_closed, WholeCut, trimmed, begin, record_node, close_line, trim}
 use Rattle.tp_law_network.proofs.Partial.{bind_some, cond_some}
 
 module _ {Node : Type 0} (w v : MarkedNetwork Node) where

@@ -1,19 +1,7 @@
 -- A snapshot begins.
 use Rattle.std.proofs.Common.{◌≡◌, ◌≢◌, ℕ, ◌+◌, ◌*◌, ◌/◌, ◌<◌, ◌≤◌, true, false, cond, not, inl, inr, List, [], ◌∷◌, ◌++◌, length, map, replicate, get_or, refl, sym, ap, subst, ◌∙◌, arith, Option, Some, None, append-nil, length-append, eq-eqb, ne_eqb}
-use Rattle.std.specs.Prelude.{◌&&◌, is_some, length}
-use Rattle.std.specs.Option.{option_map}
-use Rattle.std.proofs.lemmas.Bool.{cases_eq, cases_lt, cases_order, true≢false, lt-ltb, le-ltb}
-use Rattle.std.proofs.lemmas.List.{length-replicate, get_or-replicate, get_or_append_left, get_or_at, get_or_past, length-map}
-use Rattle.std.proofs.lemmas.Option.{slice_get_past}
-use Rattle.tp_model.specs.declared.link.Token.{Token}
-use Rattle.tp_model.specs.declared.wire.WireEnd.{WireEnd}
-use Rattle.tp_model.specs.declared.entry.Entry.{Entry}
-use Rattle.tp_model.specs.Network.{Machine, Network, Own, OfNode, OfHost, own, has_wire, is_wired, receiver, process_at, on_line, for_line}
-use Rattle.tp_model.specs.Entries.{process, HasFourLinks}
-use Rattle.tp_model.specs.Order.{after, Reorder, same, made}
-use Rattle.tp_model.specs.Sound.{owner}
-use Rattle.tp_model.specs.Markers.{before, markers, plain, plain_network}
-use Rattle.tp_model.specs.Snapshot.{Snapshot, MarkedNetwork, first_snapshot, count_of, has_recorded, is_closed, taker, with_markers, host_markers}
+use Rattle.std.specs.Prelude.{◌&&◌, is_some}
+use Rattle.tp_law_network.proofs.Lower.{option_map, cases_eq, cases_lt, cases_order, true≢false, lt-ltb, le-ltb, length-replicate, get_or-replicate, get_or_append_left, get_or_at, get_or_past, length-map, slice_get_past, Token, WireEnd, Entry, Machine, Network, Own, OfNode, OfHost, own, has_wire, is_wired, receiver, process_at, on_line, for_line, process, HasFourLinks, after, Reorder, same, made, owner, before, markers, plain, plain_network, Snapshot, MarkedNetwork, first_snapshot, count_of, has_recorded, is_closed, taker, with_markers, host_markers}
 use Rattle.tp_law_network.proofs.Local.{step_of, own_node, own_host, own-node, own-host, own-lines, next_shape}
 use Rattle.tp_law_network.proofs.Choice.{made-other, chosen_all, chosen_none}
 use Rattle.tp_law_network.proofs.Reorder.{first_possible, process_next}

@@ -1,16 +1,7 @@
 -- A process by itself, over entries that a network goes through. It goes on as it does in the network. What the network has on a line is
 -- what came there, without what was taken.
 use Rattle.std.proofs.Common.{◌≡◌, ◌≢◌, inl, inr, ℕ, ◌*◌, ◌/◌, ◌<◌, Bool, true, false, cond, List, [], ◌∷◌, ◌++◌, length, refl, sym, ap, subst, ◌∙◌, arith, append_assoc, append-nil, Some, eq-eqb, ne_eqb, slice_get}
-use Rattle.std.proofs.lemmas.Bool.{cases_eq, cases_lt, lt-ltb, le-ltb}
-use Rattle.std.proofs.lemmas.Option.{slice_get_cases}
-use Rattle.std.proofs.lemmas.Nat.{div_below}
-use Rattle.std.specs.Option.{option_map}
-use Rattle.tp_model.specs.declared.link.Token.{Token}
-use Rattle.tp_model.specs.declared.entry.Entry.{Entry}
-use Rattle.tp_model.specs.Network.{◌>>=◌, Machine, Network, Own, OfNode, OfHost, own, has_wire, on_line, for_line, sent}
-use Rattle.tp_model.specs.Entries.{process, takes, does, next, HasFourLinks}
-use Rattle.tp_model.specs.Order.{after}
-use Rattle.tp_model.specs.Sound.{owner}
+use Rattle.tp_law_network.proofs.Lower.{cases_eq, cases_lt, lt-ltb, le-ltb, slice_get_cases, div_below, option_map, Token, Entry, ◌>>=◌, Machine, Network, Own, OfNode, OfHost, own, has_wire, on_line, for_line, sent, process, takes, does, next, HasFourLinks, after, owner}
 use Rattle.tp_law_network.proofs.Partial.{bind_some}
 use Rattle.tp_law_network.proofs.Lines.{for_line-append, for_line-elsewhere, on_taken, length_taken, on_sent}
 use Rattle.tp_law_network.proofs.Local.{Step, SameShape, step_of, process_same, takes_same, step_sends, step_shape, step_lines, step_own_same, step_own_other, own-host, own-node}

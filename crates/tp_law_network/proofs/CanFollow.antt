@@ -1,15 +1,6 @@
 -- An entry is possible in the network exactly if its process can do it by itself and its tokens are those that come next.
 use Rattle.std.proofs.Common.{◌≡◌, ◌≢◌, ◌⊎◌, inl, inr, ℕ, ◌+◌, ◌<◌, ◌≤◌, true, cond, List, [], ◌∷◌, ◌++◌, length, refl, sym, ap, subst, ◌∙◌, arith, eq-eqb, Option, Some, None}
-use Rattle.std.proofs.lemmas.Bool.{cases_eq, cases_lt}
-use Rattle.std.proofs.lemmas.List.{append_cancel_left}
-use Rattle.std.specs.Option.{option_map}
-use Rattle.tp_model.specs.declared.link.Token.{Token}
-use Rattle.tp_model.specs.declared.entry.Entry.{Entry}
-use Rattle.tp_model.specs.declared.entry.Entry.TheVariants.{Take}
-use Rattle.tp_model.specs.Network.{◌>>=◌, Machine, Network, Own, OfNode, OfHost, own, put, has_wire, on_line, for_line, sent}
-use Rattle.tp_model.specs.Entries.{process, takes, does, next, HasFourLinks}
-use Rattle.tp_model.specs.Order.{after}
-use Rattle.tp_model.specs.Sound.{owner}
+use Rattle.tp_law_network.proofs.Lower.{cases_eq, cases_lt, append_cancel_left, option_map, Token, Entry, Take, ◌>>=◌, Machine, Network, Own, OfNode, OfHost, own, put, has_wire, on_line, for_line, sent, process, takes, does, next, HasFourLinks, after, owner}
 use Rattle.tp_law_network.proofs.Partial.{bind_some}
 use Rattle.tp_law_network.proofs.Lines.{on_taken, taken_from}
 use Rattle.tp_law_network.proofs.Local.{Step, SameShape, step_of, next_from, process_same, takes_same, own-host, own_host, own_node, own-node}

@@ -1,12 +1,7 @@
 -- The Marker of a line is taken.
 use Rattle.std.proofs.Common.{◌≡◌, ◌≢◌, ℕ, ◌+◌, ◌<◌, Bool, true, false, cond, not, inl, inr, List, [], ◌++◌, length, set, refl, sym, ap, subst, ◌∙◌, arith, Option, Some, length-set, get_or-set_same, get_or-set_other}
 use Rattle.std.specs.Prelude.{◌&&◌}
-use Rattle.std.proofs.lemmas.Bool.{cases_eq, cases_Bool, and_parts, not-true, true≢false, false≢true}
-use Rattle.tp_model.specs.declared.link.Token.{Token}
-use Rattle.tp_model.specs.Network.{Machine, Network, has_wire, on_line}
-use Rattle.tp_model.specs.Sound.{owner}
-use Rattle.tp_model.specs.Markers.{before, markers, has_marker, unmarked}
-use Rattle.tp_model.specs.Snapshot.{Snapshot, MarkedNetwork, has_recorded, is_closed, taker, closed_over}
+use Rattle.tp_law_network.proofs.Lower.{cases_eq, cases_Bool, and_parts, not-true, true≢false, false≢true, Token, Machine, Network, has_wire, on_line, owner, before, markers, has_marker, unmarked, Snapshot, MarkedNetwork, has_recorded, is_closed, taker, closed_over}
 use Rattle.tp_law_network.proofs.Lines.{on_set_same, on_set_other}
 use Rattle.tp_law_network.proofs.Local.{own-lines}
 use Rattle.tp_law_network.proofs.CutsMarks.{marker_gone, marker_there, unmarked_markers}

@@ -1,22 +1,7 @@
 -- What a port has counted is how many entries there were.
 use Rattle.std.proofs.Common.{◌≡◌, ℕ, ◌+◌, ◌-◌, Bool, true, false, cond, inl, inr, List, [], ◌∷◌, length, set, refl, sym, ap, subst, ◌∙◌, arith, length-append, length-drop, Option, Some, None, slice_get, ne_eqb, eq-eqb}
-use Rattle.std.specs.Prelude.{◌==◌, ◌&&◌, nat_lt, nat_le, length}
-use Rattle.std.specs.Option.{option_map}
-use Rattle.std.specs.List.{count_by}
-use Rattle.std.proofs.lemmas.Bool.{and_parts, cases_eq, ltb-true, leb-true}
-use Rattle.std.proofs.lemmas.List.Sums.{sum_by-cons}
-use Rattle.std.proofs.lemmas.Option.{cond_some}
-use Rattle.tp_model.specs.declared.link.Token.{Token}
-use Rattle.tp_model.specs.declared.link.Token.TheVariants.{Data, Ack, Marker}
-use Rattle.tp_model.specs.declared.wire.WireEnd.{WireEnd}
-use Rattle.tp_model.specs.declared.wire.WireEnd.TheVariants.{Link, Port as AtPort}
-use Rattle.tp_model.specs.declared.entry.Entry.{Entry}
-use Rattle.tp_model.specs.declared.entry.Entry.TheVariants.{Run, Take, HostIn, Confirm, Turn}
-use Rattle.tp_model.specs.declared.limits.TheConstants.{MAX_STEPS}
-use Rattle.tp_model.specs.Network.{Machine, steps, Network, Port, Own, OfNode, OfHost, put, receiver, has_wire, sent}
-use Rattle.tp_model.specs.Entries.{HasFourLinks, process, port_took, acked, handed_in, confirmed, of_node, of_port, receives, does, next}
-use Rattle.tp_model.specs.Order.{after}
-use Rattle.tp_model.specs.Counted.{accepted, came_out, is_input, is_at, is_output}
+use Rattle.std.specs.Prelude.{◌==◌, ◌&&◌, nat_lt, nat_le}
+use Rattle.tp_law_network.proofs.Lower.{option_map, count_by, and_parts, cases_eq, ltb-true, leb-true, sum_by-cons, cond_some, Token, Data, Ack, Marker, WireEnd, Link, AtPort, Entry, Run, Take, HostIn, Confirm, Turn, MAX_STEPS, Machine, steps, Network, Port, Own, OfNode, OfHost, put, receiver, has_wire, sent, HasFourLinks, process, port_took, acked, handed_in, confirmed, of_node, of_port, receives, does, next, after, accepted, came_out, is_input, is_at, is_output}
 use Rattle.tp_law_network.proofs.Partial.{cond_some as tested, slice_get-set_same, slice_get-set_other}
 use Rattle.tp_law_network.proofs.Local.{step_of, step_shape, own_host, port_step, turn_step}
 use Rattle.tp_law_network.proofs.Reorder.{first_possible}

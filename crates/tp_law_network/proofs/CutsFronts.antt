@@ -1,17 +1,6 @@
 -- An entry that is possible stays so, and does what it did, whatever others do.
 use Rattle.std.proofs.Common.{◌≡◌, ◌≢◌, ℕ, zero, suc, ◌≤◌, arith, cond, inl, inr, List, [], ◌∷◌, ◌++◌, length, set, refl, sym, ap, subst, ◌∙◌, Some}
-use Rattle.std.specs.List.{AllByRecursion}
-use Rattle.std.proofs.lemmas.Bool.{cases_eq, cases_lt}
-use Rattle.tp_model.specs.declared.link.Token.{Token}
-use Rattle.tp_model.specs.declared.entry.Entry.{Entry}
-use Rattle.tp_model.specs.Network.{Machine, Network, Own, own, has_wire, on_line, taken, sent, for_line}
-use Rattle.tp_model.specs.declared.link.Received.{Received}
-use Rattle.tp_model.specs.Turn.{by_link, by_line, incoming, comes_in}
-use Rattle.tp_model.specs.Entries.{process, takes, does, HasFourLinks}
-use Rattle.tp_model.specs.Markers.{unmarked, NeverMarks}
-use Rattle.tp_model.specs.Snapshot.{MarkedNetwork, taker, host_markers, node_markers}
-use Rattle.tp_model.specs.WholeCut.{all_some, whole}
-use Rattle.tp_model.specs.Acts.{Act, Begin, Record, Journal, Close, Trim, happens, acted}
+use Rattle.tp_law_network.proofs.Lower.{AllByRecursion, cases_eq, cases_lt, Token, Entry, Machine, Network, Own, own, has_wire, on_line, taken, sent, for_line, Received, by_link, by_line, incoming, comes_in, process, takes, does, HasFourLinks, unmarked, NeverMarks, MarkedNetwork, taker, host_markers, node_markers, all_some, whole, Act, Begin, Record, Journal, Close, Trim, happens, acted}
 use Rattle.tp_law_network.proofs.Lines.{for_line-here, for_line-other, taken-sent, taken_both, taken_from, on_taken, on_set_same, on_set_other}
 use Rattle.tp_law_network.proofs.Local.{Step, step_of, step_takes, step_lines, step_shape, step_own_other, process_same, process_kept, takes_same, takes_own, turn_own}
 use Rattle.tp_law_network.proofs.Plain.{does_unmarked, unmarked_links, unmarked_moved}

@@ -1,13 +1,7 @@
 -- Lines with Markers: what comes before the first one, how many there are, and the line without them.
 use Rattle.std.proofs.Common.{◌≡◌, ℕ, ◌+◌, ◌<◌, ◌≤◌, Bool, true, false, cond, inl, inr, List, [], ◌∷◌, ◌++◌, map, length, set, drop, refl, sym, ap, ◌∙◌, arith, append-nil}
 use Rattle.std.specs.Prelude.{◌==◌}
-use Rattle.std.specs.List.{AllByRecursion}
-use Rattle.std.proofs.lemmas.Bool.{cases_lt, cases_Bool, false≢true}
-use Rattle.std.proofs.lemmas.List.{get_or_past, map-set, set-get_or}
-use Rattle.tp_model.specs.declared.link.Token.{Token}
-use Rattle.tp_model.specs.declared.link.Token.TheVariants.{Marker}
-use Rattle.tp_model.specs.Network.{on_line, is_first, pushed, sent, for_line}
-use Rattle.tp_model.specs.Markers.{is_marker, plain, before, markers, has_marker, unmarked}
+use Rattle.tp_law_network.proofs.Lower.{AllByRecursion, cases_lt, cases_Bool, false≢true, get_or_past, map-set, set-get_or, Token, Marker, on_line, is_first, pushed, sent, for_line, is_marker, plain, before, markers, has_marker, unmarked}
 use Rattle.tp_law_network.proofs.Lines.{first_is}
 use Rattle.tp_law_network.proofs.Marks.{plain-append}
 use Rattle.tp_law_network.proofs.Room.{on_line-plain}

@@ -1,11 +1,7 @@
 -- How many tokens a line may have: at most one Marker, and none before its sender records.
 use Rattle.std.proofs.Common.{ℕ, ◌+◌, ◌≤◌, Bool, true, false, cond, not, inl, inr, length, sym, ap, subst, arith, Option, Some, None}
 use Rattle.std.specs.Prelude.{◌&&◌}
-use Rattle.std.proofs.lemmas.Bool.{cases_Bool}
-use Rattle.tp_model.specs.Network.{Machine, has_wire, on_line}
-use Rattle.tp_model.specs.Sound.{EndsSeen, Sound, owner}
-use Rattle.tp_model.specs.Markers.{markers, plain_network}
-use Rattle.tp_model.specs.Snapshot.{Snapshot, MarkedNetwork, has_recorded, is_closed}
+use Rattle.tp_law_network.proofs.Lower.{cases_Bool, Machine, has_wire, on_line, EndsSeen, Sound, owner, markers, plain_network, Snapshot, MarkedNetwork, has_recorded, is_closed}
 use Rattle.tp_law_network.proofs.Room.{line_room as sound_room, sound_marked}
 use Rattle.tp_law_network.specs.Invariant.{Inside, CutInvariant}
 

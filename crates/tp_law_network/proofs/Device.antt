@@ -1,9 +1,6 @@
 -- What the device holds at each position of the flusher, and what a crash may leave of it.
 use Rattle.std.proofs.Common.{◌≡◌, ℕ, ◌+◌, ◌≤◌, ◌⊎◌, List, [], ◌∷◌, ◌++◌, length, refl, sym, ap, subst, ◌∙◌, arith, Some}
-use Rattle.tp_model.specs.declared.entry.Entry.{Entry}
-use Rattle.tp_model.specs.Network.{Machine}
-use Rattle.tp_model.specs.Disk.{Moment, MayBe, Write, Sync, written, done, within, IsWithin, AreWithin}
-use Rattle.tp_model.specs.Areas.{Areas, AreasHold, Held, with_more, gate_open, gate_closed, ArePossible}
+use Rattle.tp_law_network.proofs.Lower.{Entry, Machine, Moment, MayBe, Write, Sync, written, done, within, IsWithin, AreWithin, Areas, AreasHold, Held, with_more, gate_open, gate_closed, ArePossible}
 use Rattle.tp_law_network.specs.Standing.{RestsBetweenGroups, Bodied, Readied, Gated, Clearing, Switching}
 use Rattle.tp_law_network.proofs.Moments.{length-written, within_last, may_stand, may_be_written, write_may, synced_may, loose_may, loose_more}
 

@@ -1,24 +1,8 @@
 -- What the ends of links and ports do in one entry, counted in Data and Acks.
-use Rattle.std.proofs.Common.{◌≡◌, ◌≢◌, ℕ, zero, suc, ◌+◌, ◌-◌, ◌*◌, ◌/◌, ◌%◌, ◌<◌, ◌≤◌, ◌∙◌, true, append-nil, inl, inr, List, [], ◌∷◌, ◌++◌, map, length, set, refl, sym, ap, subst, arith, Option, Some, None}
-use Rattle.std.proofs.lemmas.Bool.{eq-eqb, ne_eqb, cases_Bool, cases_eq, ltb-true, ltb-false}
-use Rattle.std.proofs.lemmas.Option.{cond_some}
-use Rattle.std.specs.Prelude.{nat_lt, nat_le, ◌&&◌, slice_get, length}
-use Rattle.std.specs.Option.{option_map}
-use Rattle.std.specs.List.{AllByRecursion}
-use Rattle.tp_model.specs.declared.link.Token.{Token}
-use Rattle.tp_model.specs.declared.link.Token.TheVariants.{Data, Ack, Marker}
-use Rattle.tp_model.specs.declared.wire.WireEnd.{WireEnd}
-use Rattle.tp_model.specs.declared.wire.WireEnd.TheVariants.{Link, Port as AtPort}
-use Rattle.tp_model.specs.declared.entry.Entry.{Entry}
-use Rattle.tp_model.specs.declared.entry.Entry.TheVariants.{Run, Take, HostIn, Confirm, Turn}
-use Rattle.tp_model.specs.declared.limits.TheConstants.{MAX_STEPS}
-use Rattle.tp_model.specs.Word.{bit}
-use Rattle.tp_model.specs.Network.{◌>>=◌, Machine, steps, Network, Port, Own, OfNode, OfHost, own, receiver, process_at, line_of, back, for_line}
-use Rattle.tp_model.specs.Turn.{by_link, by_line, comes_in, took_all}
-use Rattle.tp_model.specs.Entries.{process, takes, of_node, of_port, acked, port_took, first_only, handed_in, confirmed, receives, does}
-use Rattle.tp_model.specs.Sound.{EndsSeen, datas, acks, owner, is_some_byte, is_pending, own_waits, own_holds, Wired, KeepsFlight}
+use Rattle.std.proofs.Common.{◌≡◌, ◌≢◌, ℕ, zero, suc, ◌+◌, ◌-◌, ◌*◌, ◌/◌, ◌%◌, ◌<◌, ◌≤◌, ◌∙◌, true, append-nil, inl, inr, List, [], ◌∷◌, ◌++◌, map, length, set, refl, sym, ap, subst, arith, Option, Some, None, eq-eqb, ne_eqb, slice_get}
+use Rattle.std.specs.Prelude.{nat_lt, nat_le, ◌&&◌}
+use Rattle.tp_law_network.proofs.Lower.{cases_Bool, cases_eq, ltb-true, ltb-false, cond_some, option_map, AllByRecursion, Token, Data, Ack, Marker, WireEnd, Link, AtPort, Entry, Run, Take, HostIn, Confirm, Turn, MAX_STEPS, bit, ◌>>=◌, Machine, steps, Network, Port, Own, OfNode, OfHost, own, receiver, process_at, line_of, back, for_line, by_link, by_line, comes_in, took_all, process, takes, of_node, of_port, acked, port_took, first_only, handed_in, confirmed, receives, does, EndsSeen, datas, acks, owner, is_some_byte, is_pending, own_waits, own_holds, Wired, KeepsFlight, taker}
 use Rattle.tp_law_network.proofs.Lines.{for_line-append}
-use Rattle.tp_model.specs.Snapshot.{taker}
 use Rattle.tp_law_network.proofs.Local.{turn_step, comes_first, own_node, owner_of_link, owner_of_port}
 use Rattle.tp_law_network.proofs.Partial.{bind_some, map_some, cond_some as tested, slice_get-set_same, slice_get-set_other}
 

@@ -1,10 +1,7 @@
 -- The tokens that an entry takes, shared out among the pieces that send them.
 use Rattle.std.proofs.Common.{◌≡◌, ℕ, ◌<◌, ◌≤◌, Bool, true, false, cond, inl, inr, List, [], ◌∷◌, ◌++◌, length, refl, sym, ap, subst, ◌∙◌, Some}
 use Rattle.std.specs.Prelude.{◌==◌}
-use Rattle.std.proofs.lemmas.Bool.{cases_lt, cases_Bool, true≢false}
-use Rattle.std.proofs.lemmas.List.{append_cancel_left}
-use Rattle.tp_model.specs.declared.link.Token.{Token}
-use Rattle.tp_model.specs.Network.{on_line, for_line, taken, sent}
+use Rattle.tp_law_network.proofs.Lower.{cases_lt, cases_Bool, true≢false, append_cancel_left, Token, on_line, for_line, taken, sent}
 use Rattle.tp_law_network.proofs.Lines.{for_line-other, on_taken, taken_from, on_sent, on_sent_past}
 use Rattle.tp_law_network.specs.Piece.{Piece, from_piece, sends}
 

@@ -1,21 +1,7 @@
 -- The node's half and the book's half of an act are the act.
 use Rattle.std.proofs.Common.{◌≡◌, ℕ, ◌<◌, true, false, cond, not, List, [], ◌∷◌, ◌++◌, length, set, drop, replicate, refl, sym, ap, ◌∙◌, arith, append-nil, Option, Some, None, slice_get}
-use Rattle.std.specs.Prelude.{◌&&◌, length}
-use Rattle.std.specs.Option.{option_map}
-use Rattle.std.proofs.lemmas.Bool.{lt-ltb}
-use Rattle.std.proofs.lemmas.List.{set-get_or}
-use Rattle.std.proofs.lemmas.Option.{slice_get_within}
-use Rattle.tp_model.specs.declared.link.Token.{Token}
-use Rattle.tp_model.specs.declared.link.Token.TheVariants.{Marker}
-use Rattle.tp_model.specs.declared.entry.Entry.{Entry}
-use Rattle.tp_model.specs.Network.{◌>>=◌, Machine, Network, Port, OfNode, OfHost, own, put, receiver, has_wire, process_at, on_line, is_first, taken, sent}
-use Rattle.tp_model.specs.Entries.{process, takes, does, next}
-use Rattle.tp_model.specs.Order.{made}
-use Rattle.tp_model.specs.Markers.{before, has_marker, unmarked}
-use Rattle.tp_model.specs.Snapshot.{Snapshot, has_recorded, taker, closed_over, collected, journalled, first_snapshot, host_markers}
-use Rattle.tp_model.specs.WholeCut.{WholeCut, all_some, whole}
-use Rattle.tp_model.specs.Acts.{Begin, Record, Journal, Close, Trim, begin, record_node, close_line, trim, happens}
-use Rattle.tp_model.specs.Halves.{BookState, live, marked, whole_in, without, with_half, with_begin, with_record, with_close, with_close_over, with_trim}
+use Rattle.std.specs.Prelude.{◌&&◌}
+use Rattle.tp_law_network.proofs.Lower.{option_map, lt-ltb, set-get_or, slice_get_within, Token, Marker, Entry, ◌>>=◌, Machine, Network, Port, OfNode, OfHost, own, put, receiver, has_wire, process_at, on_line, is_first, taken, sent, process, takes, does, next, made, before, has_marker, unmarked, Snapshot, has_recorded, taker, closed_over, collected, journalled, first_snapshot, host_markers, WholeCut, all_some, whole, Begin, Record, Journal, Close, Trim, begin, record_node, close_line, trim, happens, BookState, live, marked, whole_in, without, with_half, with_begin, with_record, with_close, with_close_over, with_trim}
 use Rattle.tp_law_network.proofs.Lines.{first_is, without_taken}
 use Rattle.tp_law_network.proofs.Local.{Step, next_from, own-node, own-host, process_same, takes_same}
 

@@ -1,14 +1,6 @@
 -- Each act keeps what holds, and so a whole cut is always what it should be.
 use Rattle.std.proofs.Common.{◌≡◌, ℕ, ◌<◌, true, false, List, [], ◌∷◌, ◌++◌, length, sym, subst, ◌∙◌, Option, Some, None}
-use Rattle.std.specs.Option.{option_map}
-use Rattle.tp_model.specs.declared.entry.Entry.{Entry}
-use Rattle.tp_model.specs.Network.{Machine, Network, on_line}
-use Rattle.tp_model.specs.Entries.{process, takes, HasFourLinks}
-use Rattle.tp_model.specs.Order.{after, pre, post}
-use Rattle.tp_model.specs.Markers.{NeverMarks, has_marker, plain_network}
-use Rattle.tp_model.specs.Snapshot.{Snapshot, MarkedNetwork, has_recorded, taker, collected, begun, recorded, journalled, line_closed, host_markers, node_markers}
-use Rattle.tp_model.specs.WholeCut.{WholeCut, count_in, all_some, whole, IsWhole}
-use Rattle.tp_model.specs.Acts.{Act, Begin, Record, Journal, Close, Trim, happens, acted, IsOpened, CutHolds}
+use Rattle.tp_law_network.proofs.Lower.{option_map, Entry, Machine, Network, on_line, process, takes, HasFourLinks, after, pre, post, NeverMarks, has_marker, plain_network, Snapshot, MarkedNetwork, has_recorded, taker, collected, begun, recorded, journalled, line_closed, host_markers, node_markers, WholeCut, count_in, all_some, whole, IsWhole, Act, Begin, Record, Journal, Close, Trim, happens, acted, IsOpened, CutHolds}
 use Rattle.tp_law_network.proofs.Partial.{bind_some}
 use Rattle.tp_law_network.proofs.Local.{Step, step_of}
 use Rattle.tp_law_network.specs.Invariant.{Inside, CutInvariant}

@@ -1,16 +1,7 @@
 -- What a run's journal is at each moment, and which orders of it the cuts mean.
 use Rattle.std.proofs.Common.{◌≡◌, ℕ, ◌+◌, ◌≤◌, List, length, take, sym, subst, ◌∙◌, arith, Some}
-use Rattle.tp_model.specs.Network.{Machine, Network, on_line}
-use Rattle.tp_model.specs.Entries.{process, HasFourLinks}
-use Rattle.tp_model.specs.Order.{after, pre, post}
-use Rattle.tp_model.specs.Sound.{EndsSeen, KeepsFlight, Sound}
-use Rattle.tp_model.specs.Markers.{NeverMarks, markers, plain_network}
-use Rattle.tp_model.specs.WholeCut.{WholeCut, count_in, whole, IsWhole}
-use Rattle.tp_model.specs.Acts.{CutHolds}
-use Rattle.tp_model.specs.CutOrder.{HasOrder}
-use Rattle.tp_model.specs.Disk.{MayBe}
-use Rattle.tp_model.specs.Areas.{Areas, AreasHold, next_number}
-use Rattle.tp_model.specs.Runs.{World, Event, Run, BeginsFormatted, Recovers}
+use Rattle.tp_law_network.proofs.Lower.{Machine, Network, on_line, process, HasFourLinks, after, pre, post, EndsSeen, KeepsFlight, Sound, NeverMarks, markers, plain_network, WholeCut, count_in, whole, IsWhole, CutHolds, HasOrder, MayBe, Areas, AreasHold, next_number, World, Event, BeginsFormatted, Recovers}
+use Rattle.tp_model.specs.Runs.{Run}
 use Rattle.tp_law_network.proofs.Sound.{sound_after}
 use Rattle.tp_law_network.proofs.Room.{sound_marked}
 use Rattle.tp_law_network.proofs.CutsRoom.{few_markers, line_room}

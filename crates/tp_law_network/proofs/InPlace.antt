@@ -1,16 +1,7 @@
 -- A network in which each flight is in one place is sound; what is seen of the ends that send its lines.
 use Rattle.std.proofs.Common.{◌≡◌, ℕ, zero, suc, ◌+◌, ◌-◌, ◌*◌, ◌/◌, ◌%◌, ◌<◌, ◌≤◌, true, false, inl, inr, [], length, refl, sym, ap, ◌∙◌, arith, Some, None, slice_get, eqb-true}
 use Rattle.std.specs.Prelude.{Ok, ◌==◌}
-use Rattle.std.specs.Option.{option_map}
-use Rattle.std.proofs.lemmas.Bool.{not-true, cases_lt, true≢false, lt-ltb, le-ltb}
-use Rattle.std.proofs.lemmas.List.{get_or_past}
-use Rattle.tp_model.specs.declared.opening.OpenFault.TheVariants.{Damaged}
-use Rattle.tp_model.specs.declared.limits.TheConstants.{LINE_BYTES}
-use Rattle.tp_model.specs.Word.{bit}
-use Rattle.tp_model.specs.Network.{Network, OfNode, OfHost, own, is_wired, has_wire, back, on_line}
-use Rattle.tp_model.specs.Sound.{EndsSeen, datas, acks, owner, waits_at, holds_at, end_waits, end_holds, is_pending, Wired, Sound}
-use Rattle.tp_model.specs.Flight.{is_in_one_place, flights_in}
-use Rattle.tp_law_machine.proofs.Faults.{or_fault}
+use Rattle.tp_law_network.proofs.Lower.{option_map, not-true, cases_lt, true≢false, lt-ltb, le-ltb, get_or_past, Damaged, LINE_BYTES, bit, Network, OfNode, OfHost, own, is_wired, has_wire, back, on_line, EndsSeen, datas, acks, owner, waits_at, holds_at, end_waits, end_holds, is_pending, Wired, Sound, is_in_one_place, flights_in, or_fault}
 use Rattle.tp_law_network.proofs.Local.{own-node, own-host}
 use Rattle.tp_law_network.proofs.Sound.{wired-back, unwired-back}
 

@@ -1,14 +1,6 @@
 -- What holds at each moment of a run.
 use Rattle.std.proofs.Common.{◌≡◌, ℕ, ◌≤◌, List, [], ◌++◌, Some}
-use Rattle.std.specs.List.{AllByRecursion}
-use Rattle.tp_model.specs.declared.entry.Entry.{Entry}
-use Rattle.tp_model.specs.Network.{Machine, Network}
-use Rattle.tp_model.specs.Order.{after}
-use Rattle.tp_model.specs.Disk.{MayBe}
-use Rattle.tp_model.specs.Areas.{Areas, Held}
-use Rattle.tp_model.specs.WriteOrder.{Position, Resting, Body, Ready, Gate, Cleared, Tail, Opening, Opened, Broken}
-use Rattle.tp_model.specs.Runs.{World}
-use Rattle.tp_model.specs.CutOrder.{HasOrder}
+use Rattle.tp_law_network.proofs.Lower.{AllByRecursion, Entry, Machine, Network, after, MayBe, Areas, Held, Position, Resting, Body, Ready, Gate, Cleared, Tail, Opening, Opened, Broken, World, HasOrder}
 use Rattle.tp_law_network.specs.Invariant.{CutInvariant}
 use Rattle.tp_law_network.specs.Standing.{RestsBetweenGroups, Bodied, Readied, Gated, Clearing, Switching}
 use Rattle.tp_law_network.proofs.Prefix.{Stands, Kept, Copied, held_of}

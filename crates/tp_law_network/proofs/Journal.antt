@@ -1,17 +1,7 @@
 -- An entry is journalled while a snapshot runs.
 use Rattle.std.proofs.Common.{◌≡◌, ◌≢◌, ℕ, ◌+◌, ◌<◌, ◌≤◌, Bool, true, false, cond, not, ◌⊎◌, inl, inr, List, [], ◌∷◌, ◌++◌, length, refl, sym, ap, subst, ◌∙◌, arith, Option, Some, None, append-nil, append_assoc}
-use Rattle.std.specs.Prelude.{◌&&◌, is_some, length}
-use Rattle.std.specs.List.{AllByRecursion}
-use Rattle.std.proofs.lemmas.Bool.{cases_Bool, cases_eq, cases_lt, true≢false, false≢true, le-ltb, not-true, cond_both}
-use Rattle.std.proofs.lemmas.List.{append_cancel_left, get_or_past, length_push}
-use Rattle.tp_model.specs.declared.link.Token.{Token}
-use Rattle.tp_model.specs.declared.entry.Entry.{Entry}
-use Rattle.tp_model.specs.Network.{Machine, Network, own, put, has_wire, on_line, taken, sent, for_line, process_at, receiver}
-use Rattle.tp_model.specs.Entries.{process, takes, does, next, HasFourLinks}
-use Rattle.tp_model.specs.Order.{after, Reorder, made}
-use Rattle.tp_model.specs.Sound.{owner}
-use Rattle.tp_model.specs.Markers.{before, markers, plain_network, NeverMarks}
-use Rattle.tp_model.specs.Snapshot.{Snapshot, MarkedNetwork, count_of, has_recorded, is_closed, taker, collected}
+use Rattle.std.specs.Prelude.{◌&&◌, is_some}
+use Rattle.tp_law_network.proofs.Lower.{AllByRecursion, cases_Bool, cases_eq, cases_lt, true≢false, false≢true, le-ltb, not-true, cond_both, append_cancel_left, get_or_past, length_push, Token, Entry, Machine, Network, own, put, has_wire, on_line, taken, sent, for_line, process_at, receiver, process, takes, does, next, HasFourLinks, after, Reorder, made, owner, before, markers, plain_network, NeverMarks, Snapshot, MarkedNetwork, count_of, has_recorded, is_closed, taker, collected}
 use Rattle.tp_law_network.proofs.Lines.{for_line-elsewhere, on_taken, taken_from, length_taken, on_sent, on_sent_none, length_sent}
 use Rattle.tp_law_network.proofs.Local.{Step, SameShape, next_from, takes_same, step_takes, step_sends, step_lines, step_shape, step_own_same, step_own_other}
 use Rattle.tp_law_network.proofs.Choice.{made-append, chosen_last_in, chosen_last_out, chosen_passed}

@@ -1,15 +1,7 @@
 -- The book goes on from a whole cut.
 use Rattle.std.proofs.Common.{◌≡◌, ℕ, Bool, true, false, cond, not, inl, inr, List, length, refl, sym, ap, ◌∙◌, Some}
-use Rattle.std.specs.Prelude.{◌&&◌, length}
-use Rattle.std.proofs.lemmas.Bool.{cases_Bool}
-use Rattle.tp_model.specs.Network.{Machine, has_wire, on_line}
-use Rattle.tp_model.specs.Entries.{process, HasFourLinks}
-use Rattle.tp_model.specs.Order.{after, pre, post}
-use Rattle.tp_model.specs.Sound.{owner}
-use Rattle.tp_model.specs.Markers.{markers, plain_network}
-use Rattle.tp_model.specs.Snapshot.{MarkedNetwork, has_recorded, is_closed}
-use Rattle.tp_model.specs.WholeCut.{WholeCut, count_in, all_some, whole, network_in, trimmed}
-use Rattle.tp_model.specs.Acts.{CutHolds}
+use Rattle.std.specs.Prelude.{◌&&◌}
+use Rattle.tp_law_network.proofs.Lower.{cases_Bool, Machine, has_wire, on_line, process, HasFourLinks, after, pre, post, owner, markers, plain_network, MarkedNetwork, has_recorded, is_closed, WholeCut, count_in, all_some, whole, network_in, trimmed, CutHolds}
 use Rattle.tp_law_network.proofs.Reorder.{after_front, after_shape}
 use Rattle.tp_law_network.specs.Invariant.{CutInvariant}
 use Rattle.tp_law_network.proofs.Whole.{all_some-map, all_closed_at, whole_parts, running, whole_holds}

@@ -1,13 +1,7 @@
 -- What is on each line after tokens were taken and sent.
 use Rattle.std.proofs.Common.{◌≡◌, ◌≢◌, ℕ, ◌<◌, ◌≤◌, Bool, true, false, cond, ◌⊎◌, inl, inr, List, [], ◌∷◌, ◌++◌, length, set, drop, refl, sym, ap, subst, ◌∙◌, Some, None, append_assoc, append-nil, length-set, get_or-set_same, get_or-set_other, eqb-true, eq-eqb, ne_eqb}
 use Rattle.std.specs.Prelude.{◌==◌}
-use Rattle.std.specs.List.{AllByRecursion}
-use Rattle.std.proofs.lemmas.Bool.{cases_lt, cases_eq, cases_Bool, true≢false, false≢true}
-use Rattle.std.proofs.lemmas.List.{get_or_past, ext_get_or, append_cancel_left}
-use Rattle.tp_model.specs.declared.link.Token.{Token}
-use Rattle.tp_model.specs.declared.link.Token.TheVariants.{Data, Ack, Marker}
-use Rattle.tp_model.specs.Network.{on_line, same_token, is_first, taken, pushed, sent, for_line}
-use Rattle.tp_model.specs.Halves.{without}
+use Rattle.tp_law_network.proofs.Lower.{AllByRecursion, cases_lt, cases_eq, cases_Bool, true≢false, false≢true, get_or_past, ext_get_or, append_cancel_left, Token, Data, Ack, Marker, on_line, same_token, is_first, taken, pushed, sent, for_line, without}
 
 -- ## Tokens
 

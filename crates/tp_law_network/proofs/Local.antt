@@ -1,23 +1,8 @@
 -- An entry touches its own process alone, the fronts of lines that come in to it and the backs of lines that go out
 -- from it.
 use Rattle.std.proofs.Common.{◌≡◌, ◌≢◌, ℕ, zero, suc, ◌+◌, ◌*◌, ◌<◌, Bool, true, false, cond, List, [], ◌∷◌, ◌++◌, length, map, set, refl, sym, ap, subst, ◌∙◌, arith, Option, Some, None, length-set, slice_get, eqb-true, eq-eqb, ne_eqb}
-use Rattle.std.specs.Prelude.{◌==◌, nat_lt, nat_le, ◌&&◌, length}
-use Rattle.std.specs.Option.{option_map}
-use Rattle.std.specs.List.{AllByRecursion}
-use Rattle.std.proofs.lemmas.Bool.{and_parts, lt-ltb, le-ltb}
-use Rattle.std.proofs.lemmas.Option.{slice_get_within}
-use Rattle.tp_model.specs.declared.link.Token.{Token}
-use Rattle.tp_model.specs.declared.link.Received.{Received}
-use Rattle.tp_model.specs.declared.wire.WireEnd.{WireEnd}
-use Rattle.tp_model.specs.declared.wire.WireEnd.TheVariants.{Link, Port as AtPort}
-use Rattle.tp_model.specs.declared.entry.Entry.{Entry}
-use Rattle.tp_model.specs.declared.entry.Entry.TheVariants.{Run, Take, HostIn, Confirm, Turn}
-use Rattle.tp_model.specs.declared.limits.TheConstants.{MAX_STEPS}
-use Rattle.tp_model.specs.Network.{Machine, steps, Port, Network, Own, OfNode, OfHost, own, put, receiver, has_wire, process_at, taken, sent}
-use Rattle.tp_model.specs.Entries.{process, takes, port_took, handed_in, confirmed, of_node, of_port, receives, does, next, HasFourLinks, acts}
-use Rattle.tp_model.specs.Turn.{by_link, by_line, incoming, is_link, comes_in, took_all, turned}
-use Rattle.tp_model.specs.Sound.{owner}
-use Rattle.tp_model.specs.Snapshot.{taker}
+use Rattle.std.specs.Prelude.{◌==◌, nat_lt, nat_le, ◌&&◌}
+use Rattle.tp_law_network.proofs.Lower.{option_map, AllByRecursion, and_parts, lt-ltb, le-ltb, slice_get_within, Token, Received, WireEnd, Link, AtPort, Entry, Run, Take, HostIn, Confirm, Turn, MAX_STEPS, Machine, steps, Port, Network, Own, OfNode, OfHost, own, put, receiver, has_wire, process_at, taken, sent, process, takes, port_took, handed_in, confirmed, of_node, of_port, receives, does, next, HasFourLinks, acts, by_link, by_line, incoming, is_link, comes_in, took_all, turned, owner, taker}
 use Rattle.tp_law_network.proofs.Lines.{length_taken, length_sent}
 use Rattle.tp_law_network.proofs.Partial.{all_append, bind_some, map_some, cond_some, slice_get-set_same, slice_get-set_other}
 

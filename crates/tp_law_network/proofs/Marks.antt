@@ -1,11 +1,6 @@
 -- Lines with Markers and lines without: what is taken and sent that is no Marker.
 use Rattle.std.proofs.Common.{◌≡◌, ℕ, ◌+◌, Bool, true, false, cond, inl, inr, List, [], ◌∷◌, ◌++◌, length, map, set, drop, refl, sym, ap, ◌∙◌, arith, Some}
-use Rattle.std.specs.List.{AllByRecursion}
-use Rattle.std.proofs.lemmas.Bool.{cases_Bool, cases_lt}
-use Rattle.std.proofs.lemmas.List.{map-set, get_or_past}
-use Rattle.tp_model.specs.declared.link.Token.{Token}
-use Rattle.tp_model.specs.Network.{on_line, is_first, taken, pushed, sent, for_line}
-use Rattle.tp_model.specs.Markers.{is_marker, plain, markers}
+use Rattle.tp_law_network.proofs.Lower.{AllByRecursion, cases_Bool, cases_lt, map-set, get_or_past, Token, on_line, is_first, taken, pushed, sent, for_line, is_marker, plain, markers}
 use Rattle.tp_law_network.proofs.Lines.{first_is, same_token-self, cons_taken, taken_cons, on_taken, on_sent, on_sent_past}
 use Rattle.tp_law_network.proofs.Room.{markers-for_line, on_line-plain}
 

@@ -1,9 +1,6 @@
 -- Which order of the journal a cut and the entries after it are, as entries follow and as a cut is taken.
 use Rattle.std.proofs.Common.{◌≡◌, ℕ, ◌+◌, List, [], ◌++◌, length, refl, sym, subst, ◌∙◌, arith, append_assoc, length-append, Some}
-use Rattle.tp_model.specs.declared.entry.Entry.{Entry}
-use Rattle.tp_model.specs.Network.{Machine, Network}
-use Rattle.tp_model.specs.Order.{after, Reorder, same}
-use Rattle.tp_model.specs.CutOrder.{HasOrder}
+use Rattle.tp_law_network.proofs.Lower.{Entry, Machine, Network, after, Reorder, same, HasOrder}
 use Rattle.tp_law_network.proofs.Reorder.{after_front, reorder_trans, reorder_front, reorder_back}
 
 module _ {Node : Type 0} (M : Machine Node) (start : Network Node) where

@@ -1,11 +1,7 @@
 -- How many entries are read of rows: no more than there are rows, and none whose number would reach the limit.
-use Rattle.std.proofs.Common.{◌≡◌, ◌⊎◌, inl, inr, ℕ, ◌+◌, ◌-◌, ◌<◌, ◌≤◌, Bool, true, false, cond, List, [], ◌∷◌, length, refl, arith, Option, Some, None, nat_lt, nat_le}
-use Rattle.std.proofs.lemmas.Bool.{and_parts, cases_lt, ltb-true}
-use Rattle.std.specs.Prelude.{◌&&◌}
-use Rattle.tp_model.specs.declared.form.Form.{Form}
-use Rattle.tp_model.specs.declared.entry.Entry.{Entry}
-use Rattle.tp_model.specs.declared.limits.TheConstants.{NUMBER_LIMIT}
-use Rattle.tp_model.specs.Replay.{row_entry}
+use Rattle.std.proofs.Common.{◌≡◌, ◌⊎◌, inl, inr, ℕ, ◌+◌, ◌-◌, ◌<◌, ◌≤◌, Bool, true, false, cond, List, [], ◌∷◌, length, refl, arith, Option, Some, None}
+use Rattle.std.specs.Prelude.{nat_lt, nat_le, ◌&&◌}
+use Rattle.tp_law_network.proofs.Lower.{and_parts, cases_lt, ltb-true, Form, Entry, NUMBER_LIMIT, row_entry}
 use Rattle.tp_law_network.specs.Readable.{may_have, read_on, readable}
 
 pub readable_most : (form : Form) (least next : ℕ) (rows : List (ℕ × List ℕ)) → length (readable form least next rows) ≤ length rows

@@ -1,20 +1,7 @@
 -- A step over lines with Markers is a step over the lines without them.
 use Rattle.std.proofs.Common.{◌≡◌, ℕ, ◌+◌, ◌*◌, false, List, [], ◌∷◌, ◌++◌, length, map, refl, sym, ap, subst, ◌∙◌, Option, Some, None}
 use Rattle.std.specs.Prelude.{nat_lt, nat_le, ◌&&◌}
-use Rattle.std.specs.Option.{option_map}
-use Rattle.tp_model.specs.declared.link.Token.{Token}
-use Rattle.tp_model.specs.declared.link.Token.TheVariants.{Data, Ack, Marker}
-use Rattle.tp_model.specs.declared.link.Received.{Received}
-use Rattle.tp_model.specs.declared.link.Received.TheVariants.{Nothing, JustData, JustAck, DataThenAck, AckThenData}
-use Rattle.tp_model.specs.declared.wire.WireEnd.{WireEnd}
-use Rattle.tp_model.specs.declared.wire.WireEnd.TheVariants.{Link, Port as AtPort}
-use Rattle.tp_model.specs.declared.entry.Entry.{Entry}
-use Rattle.tp_model.specs.declared.entry.Entry.TheVariants.{Run, Take, HostIn, Confirm, Turn}
-use Rattle.tp_model.specs.declared.limits.TheConstants.{MAX_STEPS, MAX_HELD}
-use Rattle.tp_model.specs.Network.{Machine, steps, Port, Network, Own, OfNode, OfHost, own, put, receiver, has_wire, on_line, taken, sent}
-use Rattle.tp_model.specs.Turn.{by_link, incoming, took_all}
-use Rattle.tp_model.specs.Entries.{process, takes, acked, port_took, first_only, handed_in, confirmed, of_node, of_port, receives, does, next, HasFourLinks}
-use Rattle.tp_model.specs.Markers.{is_marker, plain, markers, plain_network, NeverMarks}
+use Rattle.tp_law_network.proofs.Lower.{option_map, Token, Data, Ack, Marker, Received, Nothing, JustData, JustAck, DataThenAck, AckThenData, WireEnd, Link, AtPort, Entry, Run, Take, HostIn, Confirm, Turn, MAX_STEPS, MAX_HELD, Machine, steps, Port, Network, Own, OfNode, OfHost, own, put, receiver, has_wire, on_line, taken, sent, by_link, incoming, took_all, process, takes, acked, port_took, first_only, handed_in, confirmed, of_node, of_port, receives, does, next, HasFourLinks, is_marker, plain, markers, plain_network, NeverMarks}
 use Rattle.tp_law_network.proofs.Partial.{all_append, bind_some, map_some, cond_some}
 use Rattle.tp_law_network.proofs.Local.{Step, step_of, next_from, step_lines, port_step, process_same, takes_same, turn_step}
 use Rattle.tp_law_network.proofs.Room.{steps_unmarked, own-plain}

@@ -1,16 +1,7 @@
 -- Whatever a call of the store does to the device, done or broken, is a piece of a run.
 use Rattle.std.proofs.Common.{◌≡◌, ℕ, ◌+◌, List, [], ◌∷◌, ◌++◌, length, drop, refl, sym, ap, subst, ◌∙◌, Option, Some, None, append-nil}
-use Rattle.std.specs.List.{AllByRecursion}
-use Rattle.std.proofs.Math.Seq.{drop-append_seam}
-use Rattle.tp_model.specs.declared.entry.Entry.{Entry}
-use Rattle.tp_model.specs.Network.{Machine}
-use Rattle.tp_model.specs.Disk.{Moment, MayBe, Call, Write, Sync, Read, written, done, within, broken, IsWithin}
-use Rattle.tp_model.specs.DiskHistory.{State}
-use Rattle.tp_model.specs.StoreCalls.{all_done, moments_of, group_calls, clear_calls, put_calls, tail_calls, switch_calls}
-use Rattle.tp_model.specs.Areas.{Areas, AreasHold, Held, gate_open}
-use Rattle.tp_model.specs.WriteOrder.{Position, Resting, Body, Tail, Opening, Opened, Broken, Allows, putting, looking, clearing, clear_done, add_body, body_done, add_gate, gate_done, tail_putting, tail_syncing, switching, switch_done, reached, left}
-use Rattle.tp_model.specs.Runs.{World, Event, Does, Breaks, Run}
-use Rattle.tp_model.specs.Walks.{Chained, AreWalked}
+use Rattle.tp_law_network.proofs.Lower.{AllByRecursion, drop-append_seam, Entry, Machine, Moment, MayBe, Call, Write, Sync, Read, written, done, within, broken, IsWithin, State, all_done, moments_of, group_calls, clear_calls, put_calls, tail_calls, switch_calls, Areas, AreasHold, Held, gate_open, Position, Resting, Body, Tail, Opening, Opened, Broken, Allows, putting, looking, clearing, clear_done, add_body, body_done, add_gate, gate_done, tail_putting, tail_syncing, switching, switch_done, reached, left, World, Event, Does, Breaks, Chained, AreWalked}
+use Rattle.tp_model.specs.Runs.{Run}
 use Rattle.tp_law_network.specs.Standing.{RestsBetweenGroups}
 use Rattle.tp_law_network.specs.Planned.{moved_on, ArePlanned, AreQuiet, calls_of, worlds_of, all_moved, all_does, group_plan, clear_plan, put_then, switch_plan}
 use Rattle.tp_law_network.proofs.Moments.{may_be_written}

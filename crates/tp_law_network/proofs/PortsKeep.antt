@@ -1,16 +1,7 @@
 -- If each change of a port keeps a property, so does each entry for all ports. The property may grow with the number of entries.
 use Rattle.std.proofs.Common.{◌≡◌, ℕ, ◌+◌, inl, inr, List, length, set, sym, ap, subst, ◌∙◌, Option, Some, None, slice_get}
-use Rattle.std.specs.Prelude.{nat_lt, nat_le, ◌&&◌, length}
-use Rattle.std.specs.Option.{option_map}
-use Rattle.std.proofs.lemmas.Bool.{cases_eq}
-use Rattle.tp_model.specs.declared.link.Token.{Token}
-use Rattle.tp_model.specs.declared.wire.WireEnd.{WireEnd}
-use Rattle.tp_model.specs.declared.wire.WireEnd.TheVariants.{Link, Port as AtPort}
-use Rattle.tp_model.specs.declared.entry.Entry.{Entry}
-use Rattle.tp_model.specs.declared.entry.Entry.TheVariants.{Run, Take, HostIn, Confirm, Turn}
-use Rattle.tp_model.specs.declared.limits.TheConstants.{MAX_STEPS}
-use Rattle.tp_model.specs.Network.{Machine, steps, Port, Network, Own, OfNode, OfHost, own, put, receiver, has_wire, sent}
-use Rattle.tp_model.specs.Entries.{process, of_node, of_port, receives, port_took, handed_in, confirmed, does, next}
+use Rattle.std.specs.Prelude.{nat_lt, nat_le, ◌&&◌}
+use Rattle.tp_law_network.proofs.Lower.{option_map, cases_eq, Token, WireEnd, Link, AtPort, Entry, Run, Take, HostIn, Confirm, Turn, MAX_STEPS, Machine, steps, Port, Network, Own, OfNode, OfHost, own, put, receiver, has_wire, sent, process, of_node, of_port, receives, port_took, handed_in, confirmed, does, next}
 use Rattle.tp_law_network.proofs.Local.{step_of, own_host, port_step, turn_step}
 use Rattle.tp_law_network.proofs.Partial.{map_some, cond_some, slice_get-set_same, slice_get-set_other}
 

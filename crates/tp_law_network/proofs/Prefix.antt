@@ -1,14 +1,6 @@
 -- How what the device holds, and what a copy for it holds, relate to the journal.
 use Rattle.std.proofs.Common.{◌≡◌, ℕ, ◌+◌, ◌-◌, ◌≤◌, List, [], ◌∷◌, ◌++◌, length, take, drop, get_or, sym, ap, subst, ◌∙◌, arith, append_assoc, append-nil, length-append, Option, Some}
-use Rattle.std.proofs.Math.Seq.{drop-append_seam}
-use Rattle.std.proofs.lemmas.List.{take_at}
-use Rattle.tp_model.specs.declared.entry.Entry.{Entry}
-use Rattle.tp_model.specs.Network.{Machine, Network}
-use Rattle.tp_model.specs.Entries.{process}
-use Rattle.tp_model.specs.Order.{after, Cut, pre, post, made}
-use Rattle.tp_model.specs.Snapshot.{Snapshot}
-use Rattle.tp_model.specs.Areas.{Held, next_number, with_more, ArePossible}
-use Rattle.tp_model.specs.CutOrder.{HasOrder}
+use Rattle.tp_law_network.proofs.Lower.{drop-append_seam, take_at, Entry, Machine, Network, process, after, Cut, pre, post, made, Snapshot, Held, next_number, with_more, ArePossible, HasOrder}
 use Rattle.tp_law_network.proofs.Choice.{length-pre-post}
 use Rattle.tp_law_network.proofs.Reorder.{after_front, front_possible, same_behind}
 use Rattle.tp_law_network.proofs.Stays.{HasCounts}

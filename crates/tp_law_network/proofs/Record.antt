@@ -1,14 +1,7 @@
 -- A node records.
 use Rattle.std.proofs.Common.{◌≡◌, ◌≢◌, ℕ, ◌+◌, ◌<◌, ◌≤◌, true, false, cond, not, inl, inr, List, ◌++◌, length, get_or, set, refl, sym, ap, subst, ◌∙◌, arith, Option, Some, None, slice_get, length-set, get_or-set_same, get_or-set_other, ne_eqb}
-use Rattle.std.specs.Prelude.{◌==◌, ◌&&◌, is_some, length}
-use Rattle.std.specs.Option.{option_map}
-use Rattle.std.proofs.lemmas.Bool.{cases_eq, cases_Bool, true≢false, lt-ltb}
-use Rattle.tp_model.specs.Network.{Machine, OfNode, OfHost, own, has_wire, on_line, for_line}
-use Rattle.tp_model.specs.Entries.{process}
-use Rattle.tp_model.specs.Order.{after, Reorder, made}
-use Rattle.tp_model.specs.Sound.{owner}
-use Rattle.tp_model.specs.Markers.{markers}
-use Rattle.tp_model.specs.Snapshot.{Snapshot, MarkedNetwork, count_of, has_recorded, is_closed, taker, with_count, with_markers, node_markers}
+use Rattle.std.specs.Prelude.{◌==◌, ◌&&◌, is_some}
+use Rattle.tp_law_network.proofs.Lower.{option_map, cases_eq, cases_Bool, true≢false, lt-ltb, Machine, OfNode, OfHost, own, has_wire, on_line, for_line, process, after, Reorder, made, owner, markers, Snapshot, MarkedNetwork, count_of, has_recorded, is_closed, taker, with_count, with_markers, node_markers}
 use Rattle.tp_law_network.proofs.Local.{own-node, own-lines}
 use Rattle.tp_law_network.proofs.Choice.{chosen_agree}
 use Rattle.tp_law_network.specs.Invariant.{in_count, in_cut, early, late, as_recorded, Base, Marking}

@@ -1,11 +1,6 @@
 -- Entries in order, and reorderings of them.
 use Rattle.std.proofs.Common.{◌≡◌, ◌≢◌, List, [], ◌∷◌, ◌++◌, length, refl, sym, ap, subst, ◌∙◌, Option, Some, None, append_assoc}
-use Rattle.std.specs.List.{AllByRecursion}
-use Rattle.std.proofs.Math.Path.{fun_ext}
-use Rattle.tp_model.specs.declared.entry.Entry.{Entry}
-use Rattle.tp_model.specs.Network.{◌>>=◌, Machine, Network}
-use Rattle.tp_model.specs.Entries.{process, next, HasFourLinks}
-use Rattle.tp_model.specs.Order.{after, AreIndependent, Reorder, same, swap}
+use Rattle.tp_law_network.proofs.Lower.{AllByRecursion, fun_ext, Entry, ◌>>=◌, Machine, Network, process, next, HasFourLinks, after, AreIndependent, Reorder, same, swap}
 use Rattle.tp_law_network.proofs.Partial.{bind_some}
 use Rattle.tp_law_network.proofs.Local.{SameShape, next_shape, process_kept}
 use Rattle.tp_law_network.proofs.Swap.{diamond, swaps_agree}

@@ -1,16 +1,6 @@
 -- How much a run sends, and how much a line of a sound network holds.
 use Rattle.std.proofs.Common.{◌≡◌, ℕ, zero, suc, ◌+◌, ◌<◌, ◌≤◌, Bool, true, false, inl, inr, List, [], ◌∷◌, ◌++◌, map, length, refl, sym, subst, ◌∙◌, arith, Some, eqb}
-use Rattle.std.proofs.lemmas.Bool.{cases_Bool}
-use Rattle.std.proofs.lemmas.List.{length-map}
-use Rattle.std.specs.List.{AllByRecursion}
-use Rattle.std.proofs.Math.ListN.{get_or-map}
-use Rattle.tp_model.specs.declared.link.Token.{Token}
-use Rattle.tp_model.specs.declared.link.Token.TheVariants.{Data, Ack, Marker}
-use Rattle.tp_model.specs.Word.{bit}
-use Rattle.tp_model.specs.Network.{◌>>=◌, Machine, steps, Network, own, has_wire, on_line, for_line}
-use Rattle.tp_model.specs.Entries.{HasFourLinks}
-use Rattle.tp_model.specs.Sound.{EndsSeen, datas, acks, end_waits, end_holds, Sound, KeepsFlight}
-use Rattle.tp_model.specs.Markers.{is_marker, plain, markers, plain_network, NeverMarks}
+use Rattle.tp_law_network.proofs.Lower.{cases_Bool, length-map, AllByRecursion, get_or-map, Token, Data, Ack, Marker, bit, ◌>>=◌, Machine, steps, Network, own, has_wire, on_line, for_line, HasFourLinks, EndsSeen, datas, acks, end_waits, end_holds, Sound, KeepsFlight, is_marker, plain, markers, plain_network, NeverMarks}
 use Rattle.tp_law_network.proofs.Partial.{all_append, bind_some}
 use Rattle.tp_law_network.proofs.Local.{steps_links}
 use Rattle.tp_law_network.proofs.Flight.{steps_moves}

@@ -1,25 +1,11 @@
 -- The invariant holds at each moment of a run, and so what a crash leaves holds a prefix of the journal.
 use Rattle.std.proofs.Common.{◌≡◌, ℕ, ◌+◌, ◌-◌, ◌*◌, ◌<◌, ◌≤◌, max, true, false, List, [], ◌∷◌, ◌++◌, length, take, drop, refl, sym, ap, subst, ◌∙◌, arith, append_assoc, append-nil, length-append, le_refl, Option, Some, None}
-use Rattle.std.specs.List.{AllByRecursion}
-use Rattle.std.specs.Option.{option_map}
-use Rattle.std.proofs.lemmas.List.{take_at}
-use Rattle.tp_model.specs.declared.entry.Entry.{Entry}
-use Rattle.tp_model.specs.Network.{◌>>=◌, Machine, Network, has_wire, on_line}
-use Rattle.tp_model.specs.Entries.{process, takes, HasFourLinks}
-use Rattle.tp_model.specs.Order.{after, post}
-use Rattle.tp_model.specs.Markers.{NeverMarks, markers, plain_network}
-use Rattle.tp_model.specs.Snapshot.{Snapshot, MarkedNetwork, collected, journalled}
-use Rattle.tp_model.specs.WholeCut.{WholeCut, count_in, whole, network_in, trimmed}
-use Rattle.tp_model.specs.Acts.{Act, Begin, Record, Journal, Close, Trim, happens, IsOpened, CutHolds}
-use Rattle.tp_model.specs.Disk.{MayBe, AreWithin, Call, done, within, broken}
-use Rattle.tp_model.specs.Areas.{Areas, AreasHold, Held, next_number}
-use Rattle.tp_model.specs.WriteOrder.{Position, Resting, Body, Ready, Gate, Cleared, Tail, Opening, Opened, Broken, Allows, reached, left}
-use Rattle.tp_model.specs.Runs.{World, Event, Acts, Copies, CopiesTail, Does, Breaks, Trims, Raises, Reads as ReadsMark, Reopens, grown, is_trim, copy_of, reopened, HasCut, CrashLeaves, Step, Run, fresh, BeginsFormatted, Recovers}
+use Rattle.tp_law_network.proofs.Lower.{AllByRecursion, option_map, take_at, Entry, ◌>>=◌, Machine, Network, has_wire, on_line, process, takes, HasFourLinks, after, post, NeverMarks, markers, plain_network, Snapshot, MarkedNetwork, collected, journalled, WholeCut, count_in, whole, network_in, trimmed, Act, Begin, Record, Journal, Close, Trim, happens, IsOpened, CutHolds, MayBe, AreWithin, Call, done, within, broken, Areas, AreasHold, Held, next_number, Position, Resting, Body, Ready, Gate, Cleared, Tail, Opening, Opened, Broken, Allows, reached, left, World, Event, Acts, Copies, CopiesTail, Does, Breaks, Trims, Raises, ReadsMark, Reopens, grown, is_trim, copy_of, reopened, HasCut, CrashLeaves, Step, fresh, BeginsFormatted, Recovers, HasOrder}
+use Rattle.tp_model.specs.Runs.{Run}
 use Rattle.tp_law_network.proofs.Reorder.{first_possible, front_possible, same_behind}
 use Rattle.tp_law_network.specs.Invariant.{Inside, CutInvariant}
 use Rattle.tp_law_network.specs.Standing.{RestsBetweenGroups}
 use Rattle.tp_law_network.proofs.Moments.{broken_may}
-use Rattle.tp_model.specs.CutOrder.{HasOrder}
 use Rattle.tp_law_network.proofs.Orders.{order_first, order_behind}
 use Rattle.tp_law_network.proofs.Prefix.{Stands, stands_taken, copy_kept, forget_kept}
 use Rattle.tp_law_network.proofs.Invariant.{Reads, WithKept, At, Inv}

@@ -1,12 +1,6 @@
 -- What stays of the flusher's position through an act of the network, its book and its markers.
 use Rattle.std.proofs.Common.{◌≡◌, ℕ, List, [], ◌∷◌, ◌++◌, sym, ap, ◌∙◌, append_assoc, Option}
-use Rattle.tp_model.specs.declared.entry.Entry.{Entry}
-use Rattle.tp_model.specs.Network.{Machine, Network}
-use Rattle.tp_model.specs.Snapshot.{Snapshot}
-use Rattle.tp_model.specs.WholeCut.{all_some}
-use Rattle.tp_model.specs.Areas.{Areas, Held}
-use Rattle.tp_model.specs.WriteOrder.{Position, Resting, Body, Ready, Gate, Cleared, Tail, Opening, Opened, Broken}
-use Rattle.tp_model.specs.Runs.{World}
+use Rattle.tp_law_network.proofs.Lower.{Entry, Machine, Network, Snapshot, all_some, Areas, Held, Position, Resting, Body, Ready, Gate, Cleared, Tail, Opening, Opened, Broken, World}
 use Rattle.tp_law_network.proofs.Stays.{HasCounts}
 use Rattle.tp_law_network.specs.Standing.{RestsBetweenGroups, Bodied, Readied, Gated, Clearing, Switching}
 use Rattle.tp_law_network.proofs.Prefix.{Stands, Kept, Copied, held_of, kept_grows, copied_grows, copied_stays}

@@ -1,12 +1,6 @@
 -- What a crash may leave at each position of the flusher and within each of its calls, and what holds after the call.
 use Rattle.std.proofs.Common.{◌≡◌, ℕ, ◌⊎◌, inl, inr, List, refl, ap, subst, ◌∙◌, arith, Some}
-use Rattle.tp_model.specs.declared.entry.Entry.{Entry}
-use Rattle.tp_model.specs.Network.{Machine, Network}
-use Rattle.tp_model.specs.Order.{after}
-use Rattle.tp_model.specs.Disk.{MayBe, Call, Sync, done, within}
-use Rattle.tp_model.specs.Areas.{Areas, AreasHold, Held, with_more, ArePossible}
-use Rattle.tp_model.specs.WriteOrder.{Position, Resting, Body, Ready, Gate, Cleared, Tail, Opening, Opened, Broken, Allows, putting, syncing, looking, clearing, clear_done, add_body, body_done, add_gate, gate_done, tail_putting, tail_syncing, switching, switch_done, reached, left}
-use Rattle.tp_model.specs.Runs.{World}
+use Rattle.tp_law_network.proofs.Lower.{Entry, Machine, Network, after, MayBe, Call, Sync, done, within, Areas, AreasHold, Held, with_more, ArePossible, Position, Resting, Body, Ready, Gate, Cleared, Tail, Opening, Opened, Broken, Allows, putting, syncing, looking, clearing, clear_done, add_body, body_done, add_gate, gate_done, tail_putting, tail_syncing, switching, switch_done, reached, left, World}
 use Rattle.tp_law_network.specs.Standing.{RestsBetweenGroups}
 use Rattle.tp_law_network.proofs.Moments.{synced_may}
 use Rattle.tp_law_network.proofs.Device.{rests_may, put_may, put_done, rests_synced, clear_within, clear_written, clear_may, clear_synced, body_within, body_written, body_may, body_synced, ready_may, gate_within, gate_written, gate_may, gate_synced, switch_within, switch_written, switch_may, switch_synced}

@@ -1,15 +1,7 @@
 -- Markers are sent: one on each line of a process, and on no other.
 use Rattle.std.proofs.Common.{◌≡◌, ◌≢◌, ℕ, zero, suc, ◌+◌, ◌*◌, ◌/◌, ◌<◌, ◌≤◌, Bool, true, false, cond, inl, inr, List, [], ◌∷◌, ◌++◌, length, refl, sym, ap, subst, ◌∙◌, arith, Option, Some, eq-eqb, ne_eqb}
 use Rattle.std.specs.Prelude.{◌==◌, nat_lt}
-use Rattle.std.specs.List.{AllByRecursion}
-use Rattle.std.proofs.lemmas.Bool.{cases_eq, ltb-true}
-use Rattle.tp_model.specs.declared.link.Token.{Token}
-use Rattle.tp_model.specs.declared.link.Token.TheVariants.{Marker}
-use Rattle.tp_model.specs.Network.{Machine, Network, has_wire, on_line, for_line}
-use Rattle.tp_model.specs.Sound.{owner}
-use Rattle.tp_model.specs.Word.{bit}
-use Rattle.tp_model.specs.Markers.{before, markers}
-use Rattle.tp_model.specs.Snapshot.{Snapshot, MarkedNetwork, node_markers, host_markers, with_markers}
+use Rattle.tp_law_network.proofs.Lower.{AllByRecursion, cases_eq, ltb-true, Token, Marker, Machine, Network, has_wire, on_line, for_line, owner, bit, before, markers, Snapshot, MarkedNetwork, node_markers, host_markers, with_markers}
 use Rattle.tp_law_network.proofs.Lines.{on_sent, on_sent_shut, length_sent, for_line-elsewhere}
 use Rattle.tp_law_network.proofs.Local.{owner_of_link, owner_of_port}
 use Rattle.tp_law_network.proofs.Marks.{markers-append}

@@ -1,13 +1,6 @@
 -- The networks of the invariant have one shape, and an entry keeps what holds at any time.
 use Rattle.std.proofs.Common.{◌≡◌, ℕ, ◌+◌, ◌*◌, ◌<◌, Bool, true, false, cond, List, [], ◌∷◌, ◌++◌, length, refl, sym, ap, subst, ◌∙◌, append-nil}
-use Rattle.std.proofs.lemmas.List.{length-map}
-use Rattle.std.proofs.Math.Path.{fun_ext}
-use Rattle.tp_model.specs.declared.link.Token.{Token}
-use Rattle.tp_model.specs.declared.entry.Entry.{Entry}
-use Rattle.tp_model.specs.Network.{Machine, Network, has_wire, on_line, for_line}
-use Rattle.tp_model.specs.Entries.{process, takes, HasFourLinks}
-use Rattle.tp_model.specs.Markers.{markers, plain, plain_network, NeverMarks}
-use Rattle.tp_model.specs.Snapshot.{Snapshot, MarkedNetwork, journalled}
+use Rattle.tp_law_network.proofs.Lower.{length-map, fun_ext, Token, Entry, Machine, Network, has_wire, on_line, for_line, process, takes, HasFourLinks, markers, plain, plain_network, NeverMarks, Snapshot, MarkedNetwork, journalled}
 use Rattle.tp_law_network.proofs.Lines.{on_taken, length_taken, on_sent}
 use Rattle.tp_law_network.proofs.Local.{Step, SameShape, step_shape, step_lines, next_from, process_kept}
 use Rattle.tp_law_network.proofs.Reorder.{after_last, after_shape}

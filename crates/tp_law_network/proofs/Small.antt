@@ -1,13 +1,7 @@
 -- The small format: what is read of it depends on which bytes.
 use Rattle.std.proofs.Common.{◌≡◌, ℕ, zero, suc, ◌+◌, ◌-◌, ◌*◌, ◌<◌, ◌≤◌, ◌⊎◌, inl, inr, Bool, true, false, cond, not, List, [], ◌∷◌, ◌++◌, length, refl, ap, subst, ◌∙◌, arith, append-nil, length-append, eq-eqb, eqb-true, Some, None}
 use Rattle.std.specs.Prelude.{◌==◌, nat_lt}
-use Rattle.std.proofs.lemmas.Bool.{cases_Bool, lt-ltb, le-ltb}
-use Rattle.tp_model.specs.declared.entry.Entry.{Entry}
-use Rattle.tp_model.specs.declared.entry.Entry.TheVariants.{HostIn}
-use Rattle.tp_model.specs.declared.limits.TheConstants.{GATE_OPEN}
-use Rattle.tp_model.specs.Network.{◌>>=◌, Machine, Network}
-use Rattle.tp_model.specs.Order.{after}
-use Rattle.tp_model.specs.Areas.{Held}
+use Rattle.tp_law_network.proofs.Lower.{cases_Bool, lt-ltb, le-ltb, Entry, HostIn, GATE_OPEN, ◌>>=◌, Machine, Network, after, Held}
 use Rattle.tp_law_network.proofs.Partial.{bind_some, cond_some}
 use Rattle.tp_law_network.specs.Small.{small_byte, is_small_open, begins, current_of, current, entries_at, held_at, if_possible, small_verdict}
 

@@ -1,18 +1,9 @@
 -- The small format meets what the laws of runs ask of it.
 use Rattle.std.proofs.Common.{◌≡◌, ℕ, zero, ◌+◌, ◌*◌, ◌<◌, ◌≤◌, ◌⊎◌, inl, inr, Bool, true, false, not, List, [], ◌∷◌, length, refl, sym, ap, subst, ◌∙◌, arith, le_refl, Some}
 use Rattle.std.specs.Prelude.{◌==◌, nat_lt, nat_le, ◌||◌}
-use Rattle.std.specs.Option.{option_map}
-use Rattle.std.proofs.lemmas.Bool.{cases_Bool, both_ways, ltb-true, leb-false, or_parts}
-use Rattle.tp_model.specs.declared.entry.Entry.{Entry}
-use Rattle.tp_model.specs.declared.entry.Entry.TheVariants.{HostIn}
-use Rattle.tp_model.specs.declared.limits.TheConstants.{GATE_OPEN, GATE_CLOSED}
-use Rattle.tp_model.specs.Network.{◌>>=◌, Machine, Network}
-use Rattle.tp_model.specs.Order.{after}
-use Rattle.tp_model.specs.Disk.{MayBe, written}
-use Rattle.tp_model.specs.Areas.{AreasHold, Held, with_more, ArePossible, gate_open}
+use Rattle.tp_law_network.proofs.Lower.{option_map, cases_Bool, both_ways, ltb-true, leb-false, or_parts, Entry, HostIn, GATE_OPEN, GATE_CLOSED, ◌>>=◌, Machine, Network, after, MayBe, written, AreasHold, Held, with_more, ArePossible, gate_open, none_or}
 use Rattle.tp_law_network.proofs.Partial.{bind_some, map_some, cond_some}
 use Rattle.tp_law_network.specs.Small.{small_byte, is_small_open, begins, current, entries_at, held_at, if_possible, small_verdict, behind, spare_of, open_of, spelt, group_of, other_of, small_areas}
-use Rattle.tp_law_machine.proofs.Faults.{none_or}
 use Rattle.tp_law_network.proofs.Moments.{length-written, get_or-written_outside, get_or-written_inside}
 use Rattle.tp_law_network.proofs.Small.{same_gate, entries_most, entries_same, entries_added, entries_end, places, current_open, current_alone, current_later, current_same, Verdict, verdict_parts, verdict_from}
 

@@ -1,17 +1,6 @@
 -- The small format in use.
 use Rattle.std.proofs.Common.{◌≡◌, ℕ, zero, suc, false, List, [], ◌∷◌, get_or, refl, sym, ap, ◌∙◌, Some, None}
-use Rattle.std.proofs.lemmas.Bool.{false≢true}
-use Rattle.tp_model.specs.declared.entry.Entry.TheVariants.{HostIn}
-use Rattle.tp_model.specs.declared.link.Token.{Token}
-use Rattle.tp_model.specs.declared.limits.TheConstants.{GATE_CLOSED}
-use Rattle.tp_model.specs.Network.{◌>>=◌, Machine, Network, own, put, has_wire, taken, pushed, sent}
-use Rattle.tp_model.specs.Entries.{process, takes, of_port, does, next, acts}
-use Rattle.tp_model.specs.Order.{after}
-use Rattle.tp_model.specs.Markers.{markers}
-use Rattle.tp_model.specs.Snapshot.{journalled}
-use Rattle.tp_model.specs.Acts.{happens, IsOpened}
-use Rattle.tp_model.specs.WriteOrder.{add_body, body_done, add_gate, gate_done}
-use Rattle.tp_model.specs.Runs.{fresh, BeginsFormatted}
+use Rattle.tp_law_network.proofs.Lower.{false≢true, HostIn, Token, GATE_CLOSED, ◌>>=◌, Machine, Network, own, put, has_wire, taken, pushed, sent, process, takes, of_port, does, next, acts, after, markers, journalled, happens, IsOpened, add_body, body_done, add_gate, gate_done, fresh, BeginsFormatted}
 use Rattle.tp_law_network.specs.Small.{entries_at, small_verdict, small_areas}
 use Rattle.tp_law_network.specs.SmallRun.{EachAnswers, Stores, one_port, made_world}
 

@@ -1,15 +1,6 @@
 -- Every entry keeps a sound network sound; in one, at most one Data and one Ack are on a line.
-use Rattle.std.proofs.Common.{◌≡◌, ◌≢◌, ℕ, ◌+◌, ◌<◌, ◌≤◌, Bool, true, false, cond, inl, inr, List, [], ◌∷◌, ◌++◌, length, refl, sym, ap, subst, ◌∙◌, arith, Option, Some, None}
-use Rattle.std.proofs.lemmas.Bool.{eq-eqb, ne_eqb, cases_eq}
-use Rattle.std.specs.Option.{option_map}
-use Rattle.tp_model.specs.declared.link.Token.{Token}
-use Rattle.tp_model.specs.declared.wire.WireEnd.{WireEnd}
-use Rattle.tp_model.specs.declared.entry.Entry.{Entry}
-use Rattle.tp_model.specs.Word.{bit}
-use Rattle.tp_model.specs.Network.{Machine, Network, Own, own, receiver, is_wired, has_wire, line_of, back, on_line, for_line}
-use Rattle.tp_model.specs.Entries.{HasFourLinks, process, takes, next}
-use Rattle.tp_model.specs.Order.{after}
-use Rattle.tp_model.specs.Sound.{EndsSeen, datas, acks, owner, own_waits, own_holds, end_waits, end_holds, Wired, Sound, KeepsFlight}
+use Rattle.std.proofs.Common.{◌≡◌, ◌≢◌, ℕ, ◌+◌, ◌<◌, ◌≤◌, Bool, true, false, cond, inl, inr, List, [], ◌∷◌, ◌++◌, length, refl, sym, ap, subst, ◌∙◌, arith, Option, Some, None, eq-eqb, ne_eqb}
+use Rattle.tp_law_network.proofs.Lower.{cases_eq, option_map, Token, WireEnd, Entry, bit, Machine, Network, Own, own, receiver, is_wired, has_wire, line_of, back, on_line, for_line, HasFourLinks, process, takes, next, after, EndsSeen, datas, acks, owner, own_waits, own_holds, end_waits, end_holds, Wired, Sound, KeepsFlight}
 use Rattle.tp_law_network.proofs.Lines.{for_line-elsewhere, on_taken, length_taken, on_sent}
 use Rattle.tp_law_network.proofs.Partial.{bind_some}
 use Rattle.tp_law_network.proofs.Local.{Step, step_of, SameShape, step_lines, step_takes, step_sends, step_shape, step_own_same, step_own_other}

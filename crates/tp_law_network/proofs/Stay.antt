@@ -1,13 +1,7 @@
 -- What the journal has below the mark stays: openings cut only what is above it.
 use Rattle.std.proofs.Common.{◌≡◌, ℕ, ◌≤◌, List, [], ◌∷◌, length, take, refl, sym, ap, subst, ◌∙◌, arith, length-append, le_refl}
-use Rattle.std.proofs.lemmas.List.{take-append-le, take-take}
-use Rattle.tp_model.specs.declared.entry.Entry.{Entry}
-use Rattle.tp_model.specs.Network.{Machine, Network}
-use Rattle.tp_model.specs.Entries.{HasFourLinks}
-use Rattle.tp_model.specs.Markers.{NeverMarks}
-use Rattle.tp_model.specs.Acts.{Act, Begin, Record, Journal, Close, Trim, IsOpened}
-use Rattle.tp_model.specs.Areas.{Areas, AreasHold, next_number}
-use Rattle.tp_model.specs.Runs.{World, Event, Acts, Copies, CopiesTail, Does, Breaks, Trims, Raises, Reads as ReadsMark, Reopens, grown, Step, Run, fresh, BeginsFormatted}
+use Rattle.tp_law_network.proofs.Lower.{take-append-le, take-take, Entry, Machine, Network, HasFourLinks, NeverMarks, Act, Begin, Record, Journal, Close, Trim, IsOpened, Areas, AreasHold, next_number, World, Event, Acts, Copies, CopiesTail, Does, Breaks, Trims, Raises, ReadsMark, Reopens, grown, Step, fresh, BeginsFormatted}
+use Rattle.tp_model.specs.Runs.{Run}
 use Rattle.tp_law_network.proofs.Moments.{may_stand}
 use Rattle.tp_law_network.proofs.Prefix.{Stands}
 use Rattle.tp_law_network.proofs.Invariant.{Inv}

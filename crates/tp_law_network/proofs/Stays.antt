@@ -1,17 +1,7 @@
 -- What stays until the trim.
 use Rattle.std.proofs.Common.{◌≡◌, ℕ, ◌+◌, true, false, cond, not, inl, inr, List, length, refl, sym, ap, subst, ◌∙◌, Option, Some, None}
-use Rattle.std.specs.Prelude.{is_some, length}
-use Rattle.std.specs.Option.{option_map}
-use Rattle.std.proofs.lemmas.Bool.{cases_Bool, true≢false, cond_both}
-use Rattle.tp_model.specs.declared.link.Token.{Token}
-use Rattle.tp_model.specs.declared.entry.Entry.{Entry}
-use Rattle.tp_model.specs.Network.{Machine, Network, has_wire, on_line, sent}
-use Rattle.tp_model.specs.Entries.{process, takes, HasFourLinks}
-use Rattle.tp_model.specs.Markers.{before}
-use Rattle.tp_model.specs.Snapshot.{Snapshot, MarkedNetwork, has_recorded, is_closed, collected, journalled, closed_over}
-use Rattle.tp_model.specs.WholeCut.{WholeCut, all_some, all_closed, whole}
-use Rattle.tp_model.specs.Acts.{Act, Begin, Record, Journal, Close, Trim, happens}
-use Rattle.tp_model.specs.Runs.{grown, is_trim, HasCut}
+use Rattle.std.specs.Prelude.{is_some}
+use Rattle.tp_law_network.proofs.Lower.{option_map, cases_Bool, true≢false, cond_both, Token, Entry, Machine, Network, has_wire, on_line, sent, process, takes, HasFourLinks, before, Snapshot, MarkedNetwork, has_recorded, is_closed, collected, journalled, closed_over, WholeCut, all_some, all_closed, whole, Act, Begin, Record, Journal, Close, Trim, happens, grown, is_trim, HasCut}
 use Rattle.tp_law_network.proofs.Lines.{same_lines, length_sent, on_sent_shut, on_sent_none}
 use Rattle.tp_law_network.proofs.Local.{Step, SameShape, step_of, step_shape}
 use Rattle.tp_law_network.specs.Invariant.{CutInvariant}

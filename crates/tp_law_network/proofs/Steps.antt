@@ -1,11 +1,6 @@
 -- One entry, in a whole network and in its pieces.
 use Rattle.std.proofs.Common.{◌≡◌, ◌≢◌, ℕ, ◌<◌, true, false, inl, inr, List, ◌++◌, length, refl, sym, ap, subst, ◌∙◌, Some, cond}
-use Rattle.std.proofs.lemmas.Bool.{cases_eq, cases_Bool, true≢false}
-use Rattle.tp_model.specs.declared.link.Token.{Token}
-use Rattle.tp_model.specs.declared.entry.Entry.{Entry}
-use Rattle.tp_model.specs.Network.{Machine, Network, Own, own, put, has_wire, on_line, for_line, taken, sent}
-use Rattle.tp_model.specs.Entries.{process, takes, does, next, HasFourLinks, acts}
-use Rattle.tp_model.specs.Sound.{owner}
+use Rattle.tp_law_network.proofs.Lower.{cases_eq, cases_Bool, true≢false, Token, Entry, Machine, Network, Own, own, put, has_wire, on_line, for_line, taken, sent, process, takes, does, next, HasFourLinks, acts, owner}
 use Rattle.tp_law_network.proofs.Partial.{bind_some}
 use Rattle.tp_law_network.proofs.Lines.{for_line-elsewhere, taken_from, length_taken, length_sent, on_sent_none}
 use Rattle.tp_law_network.proofs.Local.{Step, AreAlike, SameShape, step_of, next_from, own-lines, own-put_same, own-put_other, put-wires, put-lines, put-length, put-ports, process_same, takes_same, step_sends, step_shape, step_alike, step_lines, step_own_same, step_own_other}

@@ -1,13 +1,7 @@
 -- The whole network stops where the first of its pieces does. Pieces may stop before a line of theirs is overfull: in a sound network
 -- without Markers no line is.
 use Rattle.std.proofs.Common.{◌≡◌, inl, inr, ℕ, zero, suc, ◌+◌, ◌<◌, ◌≤◌, List, [], ◌∷◌, length, take, true, refl, sym, ap, subst, ◌∙◌, arith, Option, Some}
-use Rattle.std.proofs.lemmas.Bool.{cases_lt}
-use Rattle.tp_model.specs.declared.entry.Entry.{Entry}
-use Rattle.tp_model.specs.Network.{Machine, Network, on_line}
-use Rattle.tp_model.specs.Entries.{next, HasFourLinks}
-use Rattle.tp_model.specs.Markers.{markers, NeverMarks}
-use Rattle.tp_model.specs.Order.{after}
-use Rattle.tp_model.specs.Sound.{EndsSeen, Sound, KeepsFlight, owner}
+use Rattle.tp_law_network.proofs.Lower.{cases_lt, Entry, Machine, Network, on_line, next, HasFourLinks, markers, NeverMarks, after, EndsSeen, Sound, KeepsFlight, owner}
 use Rattle.tp_law_network.proofs.Local.{step_of}
 use Rattle.tp_law_network.proofs.Partial.{bind_some}
 use Rattle.tp_law_network.proofs.Plain.{step_markers}

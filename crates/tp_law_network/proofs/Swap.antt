@@ -1,13 +1,6 @@
 -- Two entries of different processes, both possible, may come in either order.
 use Rattle.std.proofs.Common.{◌≡◌, ◌≢◌, ℕ, List, length, refl, sym, ap, ◌∙◌, Some}
-use Rattle.std.proofs.lemmas.List.{set_comm}
-use Rattle.tp_model.specs.declared.link.Token.{Token}
-use Rattle.tp_model.specs.declared.entry.Entry.{Entry}
-use Rattle.tp_model.specs.Network.{Machine, Network, Port, Own, OfNode, OfHost, own, put, has_wire, taken, sent}
-use Rattle.tp_model.specs.Entries.{process, takes, does, next, HasFourLinks}
-use Rattle.tp_model.specs.Order.{AreIndependent}
-use Rattle.tp_model.specs.Sound.{owner}
-use Rattle.tp_model.specs.Snapshot.{taker}
+use Rattle.tp_law_network.proofs.Lower.{set_comm, Token, Entry, Machine, Network, Port, Own, OfNode, OfHost, own, put, has_wire, taken, sent, process, takes, does, next, HasFourLinks, AreIndependent, owner, taker}
 use Rattle.tp_law_network.proofs.Lines.{taken-sent, taken_both, sent-swap}
 use Rattle.tp_law_network.proofs.Local.{Step, AreAlike, SameShape, step_of, next_from, own_host, own-lines, process_kept, takes_same, step_takes, step_alike, step_sends, step_shape, step_own_other, step_lines}
 

@@ -1,16 +1,6 @@
 -- The copy of a cut with its tail, and the trim of the book to that cut.
 use Rattle.std.proofs.Common.{◌≡◌, ℕ, ◌+◌, ◌≤◌, List, [], ◌++◌, length, refl, sym, ap, subst, ◌∙◌, arith, append-nil, length-append, Some}
-use Rattle.tp_model.specs.declared.entry.Entry.{Entry}
-use Rattle.tp_model.specs.Network.{Machine, Network}
-use Rattle.tp_model.specs.Entries.{process, HasFourLinks}
-use Rattle.tp_model.specs.Order.{after, pre, post, made}
-use Rattle.tp_model.specs.Snapshot.{MarkedNetwork}
-use Rattle.tp_model.specs.WholeCut.{WholeCut, count_in, network_in}
-use Rattle.tp_model.specs.Acts.{CutHolds}
-use Rattle.tp_model.specs.Disk.{AreWithin}
-use Rattle.tp_model.specs.Areas.{Areas, Held}
-use Rattle.tp_model.specs.Runs.{World, HasCut, copy_of}
-use Rattle.tp_model.specs.CutOrder.{HasOrder}
+use Rattle.tp_law_network.proofs.Lower.{Entry, Machine, Network, process, HasFourLinks, after, pre, post, made, MarkedNetwork, WholeCut, count_in, network_in, CutHolds, AreWithin, Areas, Held, World, HasCut, copy_of, HasOrder}
 use Rattle.tp_law_network.proofs.Choice.{pre-append_outside, post-append_outside}
 use Rattle.tp_law_network.proofs.Reorder.{same_behind}
 use Rattle.tp_law_network.specs.Invariant.{CutInvariant, Inside}

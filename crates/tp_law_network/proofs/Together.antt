@@ -1,14 +1,7 @@
 -- A network from what its pieces hold.
 use Rattle.std.proofs.Common.{◌≡◌, inl, inr, ℕ, ◌<◌, ◌≤◌, true, suc, List, [], ◌∷◌, length, refl, sym, ap, subst, ◌∙◌, arith, Option, Some, slice_get}
-use Rattle.std.specs.Option.{option_map}
-use Rattle.std.proofs.lemmas.Bool.{cases_lt}
-use Rattle.std.proofs.lemmas.Option.{slice_get_past}
-use Rattle.tp_model.specs.declared.entry.Entry.{Entry}
-use Rattle.tp_model.specs.Entries.{HasFourLinks}
-use Rattle.tp_model.specs.Order.{after}
+use Rattle.tp_law_network.proofs.Lower.{option_map, cases_lt, slice_get_past, Entry, HasFourLinks, after, Machine, Network, Port, Own, OfNode, OfHost, own, on_line, owner}
 use Rattle.tp_law_network.proofs.Reach.{ends_agree}
-use Rattle.tp_model.specs.Network.{Machine, Network, Port, Own, OfNode, OfHost, own, on_line}
-use Rattle.tp_model.specs.Sound.{owner}
 use Rattle.tp_law_network.proofs.Lines.{same_lines}
 use Rattle.tp_law_network.proofs.Local.{own-node, own-host}
 use Rattle.tp_law_network.specs.Piece.{Agrees, Covers, Piece}

@@ -1,18 +1,7 @@
 -- A turn that a node made and the book is given is its act: one entry, or none.
 use Rattle.std.proofs.Common.{◌≡◌, ℕ, zero, suc, ◌+◌, ◌*◌, inl, inr, true, false, cond, List, [], ◌∷◌, length, map, set, refl, sym, ap, subst, ◌∙◌, arith, Option, Some, None, slice_get}
 use Rattle.std.specs.Prelude.{◌&&◌, nat_lt, nat_le}
-use Rattle.std.specs.Option.{option_map}
-use Rattle.std.proofs.lemmas.Bool.{and_from, cond-true, lt-ltb, ltb-false, cases_Bool}
-use Rattle.tp_model.specs.declared.link.Token.{Token}
-use Rattle.tp_model.specs.declared.link.Received.{Received}
-use Rattle.tp_model.specs.declared.entry.Entry.{Entry}
-use Rattle.tp_model.specs.declared.entry.Entry.TheVariants.{Run, Turn}
-use Rattle.tp_model.specs.declared.limits.TheConstants.{MAX_STEPS}
-use Rattle.tp_model.specs.Network.{◌>>=◌, Machine, steps, OfNode, taken}
-use Rattle.tp_model.specs.Turn.{by_link, comes_in, took_all, turned}
-use Rattle.tp_model.specs.Entries.{process, takes, does, of_node}
-use Rattle.tp_model.specs.Acts.{Journal, happens, acted}
-use Rattle.tp_model.specs.Halves.{BookState, marked}
+use Rattle.tp_law_network.proofs.Lower.{option_map, and_from, cond-true, lt-ltb, ltb-false, cases_Bool, Token, Received, Entry, Run, Turn, MAX_STEPS, ◌>>=◌, Machine, steps, OfNode, taken, by_link, comes_in, took_all, turned, process, takes, does, of_node, Journal, happens, acted, BookState, marked}
 use Rattle.tp_law_network.specs.Turns.{run_of}
 use Rattle.tp_law_network.specs.Reserved.{turn_acts, with_made, with_turn, HasTurned}
 use Rattle.tp_law_network.proofs.Halves.{node_joins}

@@ -1,24 +1,12 @@
 -- A turn as one entry is its takes, links in order, and then its run.
 use Rattle.std.proofs.Common.{◌≡◌, ℕ, zero, suc, ◌+◌, ◌*◌, true, List, [], ◌∷◌, ◌++◌, map, length, set, drop, refl, sym, ap, subst, ◌∙◌, arith, Some, None, slice_get, append-nil, length-set}
 use Rattle.std.specs.Prelude.{◌&&◌, nat_lt, nat_le}
-use Rattle.std.specs.Option.{option_map}
-use Rattle.std.proofs.lemmas.Bool.{and_from, cond-true, lt-ltb}
-use Rattle.std.proofs.lemmas.List.{set-set, map-append}
-use Rattle.tp_model.specs.declared.link.Token.{Token}
-use Rattle.tp_model.specs.declared.link.Received.{Received}
-use Rattle.tp_model.specs.declared.wire.WireEnd.TheVariants.{Link}
-use Rattle.tp_model.specs.declared.entry.Entry.TheVariants.{Run, Take, Turn}
-use Rattle.tp_model.specs.declared.limits.TheConstants.{MAX_STEPS}
-use Rattle.tp_model.specs.Network.{◌>>=◌, Machine, steps, Network, Own, OfNode, OfHost, own, put, receiver, has_wire, process_at, on_line, is_first, taken, sent}
-use Rattle.tp_model.specs.Turn.{by_link, by_line, incoming, comes_in, took_all, turned}
-use Rattle.tp_model.specs.Entries.{process, takes, of_node, receives, does, next}
-use Rattle.tp_model.specs.Order.{after}
+use Rattle.tp_law_network.proofs.Lower.{option_map, and_from, cond-true, lt-ltb, set-set, map-append, Token, Received, Link, Run, Take, Turn, MAX_STEPS, ◌>>=◌, Machine, steps, Network, Own, OfNode, OfHost, own, put, receiver, has_wire, process_at, on_line, is_first, taken, sent, by_link, by_line, incoming, comes_in, took_all, turned, process, takes, of_node, receives, does, next, after, slice_get_within}
 use Rattle.tp_law_network.specs.Turns.{run_of, takes_in, entries_of_turn, IsFront}
 use Rattle.tp_law_network.proofs.Lines.{cons_taken, taken_cons, taken-sent, sent-append}
 use Rattle.tp_law_network.proofs.Partial.{bind_some, map_some, cond_some, slice_get-set_same}
 use Rattle.tp_law_network.proofs.Local.{Step, step_of, next_from, own_node, own-node, turn_step, comes_first}
 use Rattle.tp_law_network.proofs.Reorder.{after_front, after_first, after_one, first_possible, front_possible}
-use Rattle.std.proofs.lemmas.Option.{slice_get_within}
 
 -- the tokens that a node sends, by line
 abbrev from : ℕ → List (ℕ × Token) → List (ℕ × Token)

@@ -1,13 +1,6 @@
 -- A whole cut stays until the trim, through any acts.
 use Rattle.std.proofs.Common.{◌≡◌, List, [], ◌∷◌, false, subst, Some}
-use Rattle.std.specs.List.{AllByRecursion}
-use Rattle.tp_model.specs.Network.{Machine}
-use Rattle.tp_model.specs.Entries.{HasFourLinks}
-use Rattle.tp_model.specs.Markers.{NeverMarks}
-use Rattle.tp_model.specs.Snapshot.{MarkedNetwork}
-use Rattle.tp_model.specs.WholeCut.{WholeCut}
-use Rattle.tp_model.specs.Acts.{Act, happens, acted, IsOpened}
-use Rattle.tp_model.specs.Runs.{is_trim, HasCut}
+use Rattle.tp_law_network.proofs.Lower.{AllByRecursion, Machine, HasFourLinks, NeverMarks, MarkedNetwork, WholeCut, Act, happens, acted, IsOpened, is_trim, HasCut}
 use Rattle.tp_law_network.proofs.Partial.{bind_some}
 use Rattle.tp_law_network.specs.Invariant.{CutInvariant}
 use Rattle.tp_law_network.proofs.Happens.{happens_holds, acted_holds, opened_holds}

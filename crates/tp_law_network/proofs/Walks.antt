@@ -1,22 +1,7 @@
 -- Pieces of a run without an opening, one after the other, and what crashes leave of the device on the way.
-use Rattle.std.proofs.Common.{◌≡◌, ℕ, ◌≤◌, ◌⊎◌, inl, inr, false, List, [], ◌∷◌, ◌++◌, length, take, drop, refl, sym, ap, subst, ◌∙◌, arith, append_assoc, append-nil, length-append, Some}
-use Rattle.std.specs.Prelude.{map}
-use Rattle.std.specs.List.{AllByRecursion}
-use Rattle.std.proofs.lemmas.List.{take-append-le, drop-append-le}
-use Rattle.std.proofs.Math.Seq.{drop-length}
-use Rattle.tp_model.specs.declared.entry.Entry.{Entry}
-use Rattle.tp_model.specs.Network.{Machine, Network}
-use Rattle.tp_model.specs.Entries.{HasFourLinks}
-use Rattle.tp_model.specs.Markers.{NeverMarks}
-use Rattle.tp_model.specs.Order.{after}
-use Rattle.tp_model.specs.Snapshot.{MarkedNetwork}
-use Rattle.tp_model.specs.Acts.{Act, happens, acted}
-use Rattle.tp_model.specs.Disk.{Moment, MayBe}
-use Rattle.tp_model.specs.DiskHistory.{State, SomeMay, MayHaveLeft, moment, LeavesOnly}
-use Rattle.tp_model.specs.Areas.{Areas, AreasHold, next_number}
-use Rattle.tp_model.specs.Runs.{World, Event, Acts, Reads, Step, Run, BeginsFormatted, grown, is_trim}
-use Rattle.tp_model.specs.Acknowledged.{is_reopening}
-use Rattle.tp_model.specs.Walks.{RunLeads, Chained, Walks, RecoversTo}
+use Rattle.std.proofs.Common.{◌≡◌, ℕ, ◌≤◌, ◌⊎◌, inl, inr, false, List, [], ◌∷◌, ◌++◌, length, take, drop, refl, sym, ap, subst, ◌∙◌, arith, append_assoc, append-nil, length-append, Some, map}
+use Rattle.tp_law_network.proofs.Lower.{AllByRecursion, take-append-le, drop-append-le, drop-length, Entry, Machine, Network, HasFourLinks, NeverMarks, after, MarkedNetwork, Act, happens, acted, Moment, MayBe, State, SomeMay, MayHaveLeft, moment, LeavesOnly, Areas, AreasHold, next_number, World, Event, Acts, Reads, Step, BeginsFormatted, grown, is_trim, is_reopening, RunLeads, Chained, Walks, RecoversTo}
+use Rattle.tp_model.specs.Runs.{Run}
 use Rattle.tp_law_network.proofs.Partial.{all_append, bind_some}
 use Rattle.tp_law_network.proofs.Runs.{run_recovers}
 use Rattle.tp_law_network.proofs.Stay.{stays}

@@ -1,17 +1,7 @@
 -- What a whole cut is, and when there is one.
 use Rattle.std.proofs.Common.{◌≡◌, ℕ, zero, suc, ◌<◌, Bool, true, false, cond, not, inl, inr, List, [], ◌∷◌, ◌++◌, length, map, get_or, refl, sym, ap, subst, ◌∙◌, arith, Option, Some, None, slice_get, append-nil, eq-eqb, ne_eqb}
-use Rattle.std.specs.Prelude.{nat_lt, ◌||◌, is_some, length}
-use Rattle.std.specs.Option.{option_map}
-use Rattle.std.proofs.lemmas.Bool.{cases_eq, cases_Bool, and_parts, and_from, false≢true}
-use Rattle.std.proofs.lemmas.List.{ext_get_or, length-map}
-use Rattle.tp_model.specs.declared.link.Token.{Token}
-use Rattle.tp_model.specs.Network.{Machine, OfNode, OfHost, own, has_wire, on_line}
-use Rattle.tp_model.specs.Entries.{process, HasFourLinks}
-use Rattle.tp_model.specs.Order.{after, Reorder, pre, post}
-use Rattle.tp_model.specs.Markers.{before}
-use Rattle.tp_model.specs.Snapshot.{Snapshot, MarkedNetwork, has_recorded, is_closed}
-use Rattle.tp_model.specs.WholeCut.{WholeCut, count_in, all_some, all_closed, whole_of, whole, IsWhole}
-use Rattle.tp_model.specs.Acts.{CutHolds}
+use Rattle.std.specs.Prelude.{nat_lt, ◌||◌, is_some}
+use Rattle.tp_law_network.proofs.Lower.{option_map, cases_eq, cases_Bool, and_parts, and_from, false≢true, ext_get_or, length-map, Token, Machine, OfNode, OfHost, own, has_wire, on_line, process, HasFourLinks, after, Reorder, pre, post, before, Snapshot, MarkedNetwork, has_recorded, is_closed, WholeCut, count_in, all_some, all_closed, whole_of, whole, IsWhole, CutHolds}
 use Rattle.tp_law_network.proofs.Partial.{bind_some, map_some, cond_some}
 use Rattle.tp_law_network.proofs.Lines.{same_lines}
 use Rattle.tp_law_network.proofs.Local.{own_host, own-node}

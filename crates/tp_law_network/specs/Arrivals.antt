@@ -1,10 +1,6 @@
 -- The tokens of one line: those that entries name, and those that come.
 use Rattle.std.specs.Prelude.{ℕ, if◌then◌else◌, List, [], ◌∷◌, ◌++◌, length, Option, Some}
-use Rattle.tp_model.specs.declared.link.Token.{Token}
-use Rattle.tp_model.specs.declared.entry.Entry.{Entry}
-use Rattle.tp_model.specs.Network.{◌>>=◌, Machine, Network, has_wire, on_line, for_line}
-use Rattle.tp_model.specs.Entries.{takes}
-use Rattle.tp_model.specs.Sound.{owner}
+use Rattle.tp_law_network.specs.Lower.{Token, Entry, ◌>>=◌, Machine, Network, has_wire, on_line, for_line, takes, owner}
 use Rattle.tp_law_network.specs.ByItself.{AloneState, by_itself}
 
 -- the tokens that the entries name on the line, in order

@@ -1,8 +1,6 @@
 -- What a process by itself becomes, if a network goes through the entries.
 use Rattle.std.specs.Prelude.{◌≡◌, ℕ, List, ◌++◌, length, Some}
-use Rattle.tp_model.specs.declared.entry.Entry.{Entry}
-use Rattle.tp_model.specs.Network.{Machine, Network, own, on_line}
-use Rattle.tp_model.specs.Sound.{owner}
+use Rattle.tp_law_network.specs.Lower.{Entry, Machine, Network, own, on_line, owner}
 use Rattle.tp_law_network.specs.ByItself.{AloneState, by_itself}
 use Rattle.tp_law_network.specs.Arrivals.{arrivals, named}
 

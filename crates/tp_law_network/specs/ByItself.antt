@@ -1,9 +1,6 @@
 -- A process with its own entries and the tokens that these name, and nothing else.
 use Rattle.std.specs.Prelude.{ℕ, ◌==◌, if◌then◌else◌, List, [], ◌∷◌, ◌++◌, length, Option, Some}
-use Rattle.tp_model.specs.declared.link.Token.{Token}
-use Rattle.tp_model.specs.declared.entry.Entry.{Entry}
-use Rattle.tp_model.specs.Network.{◌>>=◌, Machine, Network, Own, own}
-use Rattle.tp_model.specs.Entries.{process, does}
+use Rattle.tp_law_network.specs.Lower.{Token, Entry, ◌>>=◌, Machine, Network, Own, own, process, does}
 
 -- the state of a process, and all that it has sent so far, each token with its line
 abbrev pub AloneState : Type 0 → Type 0

@@ -1,9 +1,6 @@
 -- Whether an entry can follow others: its process can do it, and its tokens are those that came.
 use Rattle.std.specs.Prelude.{◌≡◌, ◌<◌, ℕ, List, [], ◌∷◌, ◌++◌, length, Some}
-use Rattle.tp_model.specs.declared.link.Token.{Token}
-use Rattle.tp_model.specs.declared.entry.Entry.{Entry}
-use Rattle.tp_model.specs.Network.{Machine, Network, for_line}
-use Rattle.tp_model.specs.Entries.{process, takes}
+use Rattle.tp_law_network.specs.Lower.{Token, Entry, Machine, Network, for_line, process, takes}
 use Rattle.tp_law_network.specs.ByItself.{AloneState, by_itself}
 use Rattle.tp_law_network.specs.Arrivals.{named, came}
 

@@ -1,8 +1,6 @@
 -- What an entry does to a piece of a network.
 use Rattle.std.specs.Prelude.{if◌then◌else◌, length, Option, Some}
-use Rattle.tp_model.specs.declared.entry.Entry.{Entry}
-use Rattle.tp_model.specs.Network.{◌>>=◌, Machine, Network, taken}
-use Rattle.tp_model.specs.Entries.{process, takes, acts}
+use Rattle.tp_law_network.specs.Lower.{Entry, ◌>>=◌, Machine, Network, taken, process, takes, acts}
 use Rattle.tp_law_network.specs.Piece.{Piece, from_piece}
 
 -- A piece after an entry of any process. The entry's tokens on lines which the piece sends must be at the front there, and are taken. So

@@ -1,3 +1,4 @@
+pub mod Lower
 pub mod Arrivals
 pub mod Becomes
 pub mod ByItself

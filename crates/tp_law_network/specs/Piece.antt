@@ -1,9 +1,7 @@
 -- A piece of a network: some of its processes, and the lines that these send. A part is a piece with its state: a network in which only
 -- what belongs to the piece's own processes and lines counts.
 use Rattle.std.specs.Prelude.{◌≡◌, ◌<◌, ℕ, Bool, true, if◌then◌else◌, List, [], ◌∷◌, length}
-use Rattle.tp_model.specs.declared.link.Token.{Token}
-use Rattle.tp_model.specs.Network.{Network, own, on_line}
-use Rattle.tp_model.specs.Sound.{owner}
+use Rattle.tp_law_network.specs.Lower.{Token, Network, own, on_line, owner}
 
 -- which processes a piece has, by their numbers
 abbrev pub Piece : Type 0

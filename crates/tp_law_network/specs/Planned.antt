@@ -1,10 +1,6 @@
 -- Calls of the store as events of a run: its device calls with the positions of the flusher that they lead to.
 use Rattle.std.specs.Prelude.{◌≡◌, ℕ, ◌+◌, List, [], ◌∷◌, map, Option, Some, None}
-use Rattle.tp_model.specs.declared.entry.Entry.{Entry}
-use Rattle.tp_model.specs.Disk.{Call, Write, Sync, Read, done}
-use Rattle.tp_model.specs.Areas.{Areas, Held, gate_open, gate_closed}
-use Rattle.tp_model.specs.WriteOrder.{Position, Resting, Body, Ready, Gate, Cleared, Opening, Opened, Allows, reached, left}
-use Rattle.tp_model.specs.Runs.{World, Event, Does}
+use Rattle.tp_law_network.specs.Lower.{Entry, Call, Write, Sync, Read, done, Areas, Held, gate_open, gate_closed, Position, Resting, Body, Ready, Gate, Cleared, Opening, Opened, Allows, reached, left, World, Event, Does}
 
 -- the world after a device call that was done
 abbrev pub moved_on : {Node : Type 0} → World Node → Call → Position Node → World Node

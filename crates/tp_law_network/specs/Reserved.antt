@@ -1,16 +1,7 @@
 -- What a process has done under its own lock, and the book doesn't have yet.
 use Rattle.std.specs.Prelude.{◌≡◌, ◌≢◌, ℕ, ◌+◌, ◌*◌, true, nat_lt, nat_le, if◌then◌else◌, List, [], ◌∷◌, map, length, Some}
-use Rattle.tp_model.specs.declared.link.Token.{Token}
-use Rattle.tp_model.specs.declared.link.Received.{Received}
-use Rattle.tp_model.specs.declared.entry.Entry.{Entry}
-use Rattle.tp_model.specs.declared.entry.Entry.TheVariants.{Turn}
-use Rattle.tp_model.specs.declared.limits.TheConstants.{MAX_STEPS}
-use Rattle.tp_model.specs.Network.{Machine, Network, Own, own, taken}
-use Rattle.tp_model.specs.Turn.{by_link, by_line, comes_in, turned}
-use Rattle.tp_model.specs.Entries.{process, takes, does}
-use Rattle.tp_model.specs.Halves.{BookState, with_half}
+use Rattle.tp_law_network.specs.Lower.{Token, Received, Entry, Turn, MAX_STEPS, Machine, Network, Own, own, taken, by_link, by_line, comes_in, turned, process, takes, does, BookState, with_half, Act, Begin, Record, Journal, Close, Trim}
 use Rattle.tp_law_network.specs.Turns.{run_of}
-use Rattle.tp_model.specs.Acts.{Act, Begin, Record, Journal, Close, Trim}
 
 -- The entry is possible: what it takes is at the front of its lines, and its process goes from `was` to `now` and sends this.
 pub record MayBeMade {Node : Type 0} (M : Machine Node) (s : Network Node) (e : Entry) (was now : Own Node) (sends : List (ℕ × Token)) : Type 0 where

@@ -4,13 +4,7 @@
 -- Then come two places for groups of two bytes each, and a last gate. A group is its gate and one entry: a byte that the host hands to port
 -- 0. Any network may belong to an image.
 use Rattle.std.specs.Prelude.{ℕ, zero, suc, ◌+◌, ◌*◌, ◌==◌, nat_lt, nat_le, Bool, true, false, not, ◌||◌, if◌then◌else◌, List, [], ◌∷◌, length, get_or, Option, Some, None}
-use Rattle.std.specs.Option.{option_map}
-use Rattle.tp_model.specs.declared.entry.Entry.{Entry}
-use Rattle.tp_model.specs.declared.entry.Entry.TheVariants.{HostIn}
-use Rattle.tp_model.specs.declared.limits.TheConstants.{GATE_OPEN, GATE_CLOSED}
-use Rattle.tp_model.specs.Network.{◌>>=◌, Machine, Network}
-use Rattle.tp_model.specs.Order.{after}
-use Rattle.tp_model.specs.Areas.{Areas, Held}
+use Rattle.tp_law_network.specs.Lower.{option_map, Entry, HostIn, GATE_OPEN, GATE_CLOSED, ◌>>=◌, Machine, Network, after, Areas, Held}
 
 -- the byte at a place
 abbrev pub small_byte : List ℕ → ℕ → ℕ

@@ -1,13 +1,6 @@
 -- The small format in use: contents from which each of its functions answers something, and a run that stores an entry.
 use Rattle.std.specs.Prelude.{◌≡◌, ℕ, List, [], ◌∷◌, ◌++◌, replicate, Some, None}
-use Rattle.tp_model.specs.declared.entry.Entry.TheVariants.{HostIn}
-use Rattle.tp_model.specs.declared.limits.TheConstants.{GATE_OPEN, GATE_CLOSED}
-use Rattle.tp_model.specs.Network.{Machine, Network}
-use Rattle.tp_model.specs.Acts.{Journal}
-use Rattle.tp_model.specs.Disk.{Write, Sync}
-use Rattle.tp_model.specs.Areas.{gate_open}
-use Rattle.tp_model.specs.WriteOrder.{Resting, Body, Ready, Gate}
-use Rattle.tp_model.specs.Runs.{World, Event, Acts, Copies, Does, Raises, Run, fresh}
+use Rattle.tp_law_network.specs.Lower.{HostIn, GATE_OPEN, GATE_CLOSED, Machine, Network, Journal, Write, Sync, gate_open, Resting, Body, Ready, Gate, World, Event, Acts, Copies, Does, Raises, Run, fresh}
 use Rattle.tp_law_network.specs.Small.{small_areas}
 
 -- the first area as it is made: generation 1, no entry in its cut, image 0, no group

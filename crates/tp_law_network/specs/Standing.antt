@@ -1,9 +1,6 @@
 -- What the device holds, by the flusher's position in its orders of writing.
 use Rattle.std.specs.Prelude.{◌≡◌, ℕ, ◌+◌, List, [], ◌∷◌, ◌++◌, length, Some}
-use Rattle.tp_model.specs.declared.entry.Entry.{Entry}
-use Rattle.tp_model.specs.Disk.{Moment, AreWithin, written}
-use Rattle.tp_model.specs.Areas.{Areas, Held, gate_open, gate_closed}
-use Rattle.tp_model.specs.WriteOrder.{Gate}
+use Rattle.tp_law_network.specs.Lower.{Entry, Moment, AreWithin, written, Areas, Held, gate_open, gate_closed, Gate}
 
 -- Between groups: what is unsynced comes after the other area's closed gate.
 pub record RestsBetweenGroups {Node : Type 0} (A : Areas Node) (h : Held Node) (disk : Moment) : Type 0 where

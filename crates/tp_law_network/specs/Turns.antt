@@ -1,13 +1,7 @@
 -- The entries that make up a turn.
 use Rattle.std.specs.Prelude.{◌≡◌, ℕ, zero, suc, true, List, [], ◌∷◌, ◌++◌, map, length, nat_lt, nat_le, Some, slice_get}
-use Rattle.tp_model.specs.declared.link.Token.{Token}
-use Rattle.tp_model.specs.declared.link.Received.{Received}
-use Rattle.tp_model.specs.declared.entry.Entry.{Entry}
-use Rattle.tp_model.specs.declared.entry.Entry.TheVariants.{Run, Take, Turn}
-use Rattle.tp_model.specs.declared.limits.TheConstants.{MAX_STEPS}
-use Rattle.tp_model.specs.Network.{Network, taken}
-use Rattle.tp_model.specs.Turn.{by_link, comes_in}
-use Rattle.tp_model.specs.Entries.{takes}
+use Rattle.tp_law_network.specs.Lower.{Token, Received, Entry, Take, Turn, MAX_STEPS, Network, taken, by_link, comes_in, takes}
+use Rattle.tp_model.specs.declared.entry.Entry.TheVariants.{Run}
 
 -- the takes of tokens, one after the other
 abbrev pub takes_in : List (ℕ × Token) → List Entry

@@ -2,24 +2,7 @@
 //! contracts are the laws.
 
 ghost use Rattle.std.specs.Prelude.{◌≡◌, ◌≤◌, ◌<◌, ◌+◌, ◌++◌, ℕ, List, [], Option, Some, length, take};
-ghost use Rattle.std.specs.List.{AllByRecursion};
-ghost use Rattle.tp_model.specs.declared.entry.Entry.{Entry};
-ghost use Rattle.tp_model.specs.NodeState.{NodeState};
-ghost use Rattle.tp_model.specs.Node.{t414};
-ghost use Rattle.tp_model.specs.Network.{Network};
-ghost use Rattle.tp_model.specs.Entries.{next};
-ghost use Rattle.tp_model.specs.Order.{AreIndependent};
-ghost use Rattle.tp_model.specs.Snapshot.{MarkedNetwork};
-ghost use Rattle.tp_model.specs.WholeCut.{WholeCut, whole, IsWhole};
-ghost use Rattle.tp_model.specs.Acts.{Act, acted, IsOpened, CutHolds};
-ghost use Rattle.tp_model.specs.Disk.{IsWithin, MayBe};
-ghost use Rattle.tp_model.specs.DiskHistory.{LeavesOnly, State};
-ghost use Rattle.tp_model.specs.StoreCalls.{clear_calls, group_calls, put_calls, switch_calls, tail_calls};
-ghost use Rattle.tp_model.specs.Areas.{Areas, AreasHold, Held, next_number};
-ghost use Rattle.tp_model.specs.WriteOrder.{Opened, Resting, Tail};
-ghost use Rattle.tp_model.specs.Walks.{AreWalked, RecoversTo, Walks};
-ghost use Rattle.tp_model.specs.Runs.{World, Event, Reopens, Step, Run, BeginsFormatted, Recovers, reopened};
-ghost use Rattle.tp_model.specs.Acknowledged.{IsAcknowledged, IsShown};
+ghost use Rattle.tp_law_network.specs.Lower.{AllByRecursion, Entry, NodeState, t414, Network, next, AreIndependent, MarkedNetwork, WholeCut, whole, IsWhole, Act, acted, IsOpened, CutHolds, IsWithin, MayBe, LeavesOnly, State, clear_calls, group_calls, put_calls, switch_calls, tail_calls, Areas, AreasHold, Held, next_number, Opened, Resting, Tail, AreWalked, RecoversTo, Walks, World, Event, Reopens, Step, Run, BeginsFormatted, Recovers, reopened, IsAcknowledged, IsShown};
 ghost use Rattle.tp_law_network.specs.Small.{small_areas};
 ghost use Rattle.tp_law_network.specs.SmallRun.{EachAnswers, Stores, one_port, made_world};
 

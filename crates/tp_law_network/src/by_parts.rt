@@ -2,19 +2,7 @@
 //! entries by itself. The functions do nothing; their contracts are the laws.
 
 ghost use Rattle.std.specs.Prelude.{◌≡◌, ◌⊎◌, ◌<◌, ◌≤◌, ◌+◌, ◌++◌, ℕ, List, [], ◌∷◌, Some, length};
-ghost use Rattle.tp_model.specs.declared.form.Form.{Form};
-ghost use Rattle.tp_model.specs.declared.limits.TheConstants.{NUMBER_LIMIT};
-ghost use Rattle.tp_model.specs.declared.link.Token.{Token};
-ghost use Rattle.tp_model.specs.declared.entry.Entry.{Entry};
-ghost use Rattle.tp_model.specs.declared.entry.Entry.TheVariants.{Take};
-ghost use Rattle.tp_model.specs.NodeState.{NodeState};
-ghost use Rattle.tp_model.specs.Network.{Network, on_line};
-ghost use Rattle.tp_model.specs.Entries.{next};
-ghost use Rattle.tp_model.specs.Markers.{markers};
-ghost use Rattle.tp_model.specs.Order.{after};
-ghost use Rattle.tp_model.specs.Replay.{Replay};
-ghost use Rattle.tp_model.specs.Sound.{Sound};
-ghost use Rattle.tp_model.specs.Node.{t414, t414_ends};
+ghost use Rattle.tp_law_network.specs.Lower.{Form, NUMBER_LIMIT, Token, Entry, Take, NodeState, Network, on_line, next, markers, after, Replay, Sound, t414, t414_ends};
 ghost use Rattle.tp_law_network.specs.Piece.{Agrees, Covers, Piece};
 ghost use Rattle.tp_law_network.specs.InPiece.{next_in};
 ghost use Rattle.tp_law_network.specs.Reach.{after_by, reach};

@@ -7,20 +7,8 @@ mod by_parts;
 mod whole_cuts;
 
 ghost use Rattle.std.specs.Prelude.{◌≡◌, ◌≤◌, ◌+◌, ℕ, List, Some, length, slice_get};
-ghost use Rattle.std.specs.List.{count_by};
-ghost use Rattle.tp_model.specs.declared.link.Token.{Token};
-ghost use Rattle.tp_model.specs.declared.entry.Entry.{Entry};
-ghost use Rattle.tp_model.specs.declared.entry.Entry.TheVariants.{Turn};
-ghost use Rattle.tp_model.specs.declared.link.Received.{Received};
+ghost use Rattle.tp_law_network.specs.Lower.{count_by, Token, Entry, Turn, Received, NodeState, Network, Port, steps, on_line, next, after, accepted, came_out, is_input, is_output, Sound, datas, acks, markers, t414, t414_ends};
 ghost use Rattle.tp_law_network.specs.Turns.{IsFront, entries_of_turn};
-ghost use Rattle.tp_model.specs.NodeState.{NodeState};
-ghost use Rattle.tp_model.specs.Network.{Network, Port, steps, on_line};
-ghost use Rattle.tp_model.specs.Entries.{next};
-ghost use Rattle.tp_model.specs.Order.{after};
-ghost use Rattle.tp_model.specs.Counted.{accepted, came_out, is_input, is_output};
-ghost use Rattle.tp_model.specs.Sound.{Sound, datas, acks};
-ghost use Rattle.tp_model.specs.Markers.{markers};
-ghost use Rattle.tp_model.specs.Node.{t414, t414_ends};
 
 pub use all_runs::{
     areas_can_hold, crashes_hold, every_run_holds, store_calls_walk, walks_recover,

@@ -2,23 +2,8 @@
 //! nothing; their contracts are the laws.
 
 ghost use Rattle.std.specs.Prelude.{◌≡◌, ◌<◌, ◌++◌, ℕ, true, false, List, [], length, set, replicate, Option, Some, None, slice_get};
-ghost use Rattle.std.specs.List.{AllByRecursion};
-ghost use Rattle.tp_model.specs.declared.link.Token.{Token};
-ghost use Rattle.tp_model.specs.declared.link.Token.TheVariants.{Marker};
-ghost use Rattle.tp_model.specs.declared.entry.Entry.{Entry};
-ghost use Rattle.tp_model.specs.NodeState.{NodeState};
-ghost use Rattle.tp_model.specs.Node.{t414};
-ghost use Rattle.tp_model.specs.Network.{Network, Own, Port, OfHost, OfNode, is_first, on_line, taken};
-ghost use Rattle.tp_model.specs.Entries.{does, next, process, takes};
-ghost use Rattle.tp_model.specs.Order.{after, AreIndependent, Reorder, post, pre};
-ghost use Rattle.tp_model.specs.Markers.{has_marker, plain_network};
-ghost use Rattle.tp_model.specs.Snapshot.{MarkedNetwork, Snapshot, has_recorded, taker};
-ghost use Rattle.tp_model.specs.WholeCut.{WholeCut, all_some, count_in, whole, IsWhole};
-ghost use Rattle.tp_model.specs.Acts.{Act, Begin, Close, Journal, Record, Trim, acted, happens, IsOpened, CutHolds};
-ghost use Rattle.tp_model.specs.Halves.{BookState, marked, whole_in, with_begin, with_close, with_close_over, with_half, with_record, with_trim};
-ghost use Rattle.tp_model.specs.Runs.{HasCut, is_trim};
+ghost use Rattle.tp_law_network.specs.Lower.{AllByRecursion, Token, Marker, Entry, NodeState, t414, Network, Own, Port, OfHost, OfNode, is_first, on_line, taken, does, next, process, takes, after, AreIndependent, Reorder, post, pre, has_marker, plain_network, MarkedNetwork, Snapshot, has_recorded, taker, WholeCut, all_some, count_in, whole, IsWhole, Act, Begin, Close, Journal, Record, Trim, acted, happens, IsOpened, CutHolds, BookState, marked, whole_in, with_begin, with_close, with_close_over, with_half, with_record, with_trim, HasCut, is_trim, Received};
 ghost use Rattle.tp_law_network.specs.Reserved.{MayBeMade, IsOfOthers, HasTurned, IsNotOf, IsReceived, turn_acts, with_turn};
-ghost use Rattle.tp_model.specs.declared.link.Received.{Received};
 
 /// Two neighbours that are independent may be swapped, and lead to one network. So do all orders that come from one another by such swaps.
 pub fn swaps_agree()

@@ -1,26 +1,7 @@
 -- Ports of a device that was formatted have put out nothing.
 use Rattle.std.proofs.Common.{◌≡◌, ℕ, zero, suc, ◌+◌, true, List, [], ◌∷◌, length, drop, Some, Ok, subst, arith}
 use Rattle.std.specs.Prelude.{◌&&◌, nat_le, slice_get}
-use Rattle.std.specs.List.{AllByRecursion}
-use Rattle.std.proofs.lemmas.Bool.{and_parts, leb-true}
-use Rattle.std.proofs.lemmas.List.{nil_from_length}
-use Rattle.tp_model.specs.declared.limits.TheConstants.{MAX_HELD}
-use Rattle.tp_model.specs.NodeState.{NodeState}
-use Rattle.tp_model.specs.Node.{t414, t414_ends}
-use Rattle.tp_model.specs.Network.{Machine, Network, Port}
-use Rattle.tp_model.specs.Sound.{EndsSeen}
-use Rattle.tp_model.specs.Topology.{Topology, line_count}
-use Rattle.tp_model.specs.Areas.{Held}
-use Rattle.tp_model.specs.CutImage.{is_port_of, lines_in, nodes_in, ports_in}
-use Rattle.tp_model.specs.Device.{area_start, content_of}
-use Rattle.tp_model.specs.DeviceAreas.{device_areas}
-use Rattle.tp_model.specs.Flight.{flights_in}
-use Rattle.tp_model.specs.Opening.{Opened, base_of, cut_in, lines_place, network_of, nodes_place, opening, ports_place, verdict}
-use Rattle.tp_model.specs.Runs.{World, BeginsFormatted}
-use Rattle.tp_law_device.proofs.AreaReads.{area_parts}
-use Rattle.tp_law_device.proofs.Faults.{bind_ok}
-use Rattle.tp_law_device.proofs.Opens.{held_opened, reads_of}
-use Rattle.tp_law_device.proofs.ReadCuts.{ports_read}
+use Rattle.tp_law_processes.proofs.Lower.{AllByRecursion, and_parts, leb-true, nil_from_length, MAX_HELD, NodeState, t414, t414_ends, Machine, Network, Port, EndsSeen, Topology, line_count, Held, is_port_of, lines_in, nodes_in, ports_in, area_start, content_of, device_areas, flights_in, Opened, base_of, cut_in, lines_place, network_of, nodes_place, opening, ports_place, verdict, World, BeginsFormatted, area_parts, bind_ok, held_opened, reads_of, ports_read}
 
 -- ports of a cut with this many entries in it
 abbrev ArePortsOf : ℕ → Network NodeState → Type 0

@@ -1,23 +1,7 @@
 -- One history of processes, one after the other.
 use Rattle.std.proofs.Common.{◌≡◌, ℕ, ◌<◌, ◌≤◌, inl, inr, List, [], ◌∷◌, length, take, Some, Ok, sym, ap, subst, ◌∙◌, arith}
 use Rattle.std.specs.Prelude.{slice_get}
-use Rattle.std.specs.List.{AllByRecursion}
-use Rattle.std.proofs.lemmas.List.{length-take-le, take_all}
-use Rattle.tp_model.specs.declared.entry.Entry.{Entry}
-use Rattle.tp_model.specs.NodeState.{NodeState}
-use Rattle.tp_model.specs.Node.{t414, t414_ends}
-use Rattle.tp_model.specs.Network.{Network}
-use Rattle.tp_model.specs.Order.{after}
-use Rattle.tp_model.specs.Areas.{next_number}
-use Rattle.tp_model.specs.DiskHistory.{moment}
-use Rattle.tp_model.specs.Opening.{Opened, next_of, opening, verdict}
-use Rattle.tp_model.specs.Runs.{World}
-use Rattle.tp_law_device.proofs.Opens.{held_opened}
-use Rattle.tp_law_device.proofs.Verdicts.{crash_opens}
-use Rattle.tp_flush.specs.Known.{Began}
-use Rattle.tp_flush.specs.Follows.{Follows}
-use Rattle.tp_flush.proofs.Follows.{now_is}
-use Rattle.tp_stream.specs.Put.{LeadsToBytes}
+use Rattle.tp_law_processes.proofs.Lower.{AllByRecursion, length-take-le, take_all, Entry, NodeState, t414, t414_ends, Network, after, next_number, moment, Opened, next_of, opening, verdict, World, held_opened, crash_opens, Began, Follows, now_is, LeadsToBytes}
 use Rattle.tp_law_processes.specs.Processes.{AreInOrder, Process, Showing, answered, journal_of, last_left, showings}
 use Rattle.tp_law_processes.specs.OneHistory.{HasPlace, OneHistory, OpensAfter}
 use Rattle.tp_law_processes.proofs.Joined.{after_joined, get_high, get_low, joined, length_joined, take_low}

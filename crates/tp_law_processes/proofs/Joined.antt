@@ -1,19 +1,7 @@
 -- One journal up to a place, and from there on another.
 use Rattle.std.proofs.Common.{◌≡◌, ℕ, zero, suc, ◌+◌, ◌-◌, ◌<◌, ◌≤◌, List, [], ◌∷◌, ◌++◌, length, take, drop, Some, Ok, refl, sym, ap, ◌∙◌, arith, length-append, length-drop}
 use Rattle.std.specs.Prelude.{slice_get}
-use Rattle.std.proofs.lemmas.List.{length-take-le, take-append-drop, take-append-le, take-take}
-use Rattle.std.proofs.Math.Seq.{take-append-add}
-use Rattle.tp_model.specs.declared.entry.Entry.{Entry}
-use Rattle.tp_model.specs.NodeState.{NodeState}
-use Rattle.tp_model.specs.Node.{t414}
-use Rattle.tp_model.specs.Network.{Network}
-use Rattle.tp_model.specs.Order.{after}
-use Rattle.tp_model.specs.Areas.{Held, next_number}
-use Rattle.tp_model.specs.DeviceAreas.{device_areas}
-use Rattle.tp_model.specs.Opening.{Opened, next_of, verdict}
-use Rattle.tp_model.specs.Runs.{World, BeginsFormatted}
-use Rattle.tp_law_network.proofs.Reorder.{after_front}
-use Rattle.tp_flush.proofs.Follows.{held_is, number_is}
+use Rattle.tp_law_processes.proofs.Lower.{length-take-le, take-append-drop, take-append-le, take-take, take-append-add, Entry, NodeState, t414, Network, after, Held, next_number, device_areas, Opened, next_of, verdict, World, BeginsFormatted, after_front, held_is, number_is}
 
 abbrev pub joined : {A : Type 0} → ℕ → List A → List A → List A
 joined n xs ys = take n xs ++ drop n ys

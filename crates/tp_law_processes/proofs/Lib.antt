@@ -1,3 +1,4 @@
+pub mod Lower
 mod FreshPorts
 mod Histories
 mod Joined

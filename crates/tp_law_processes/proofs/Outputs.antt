@@ -1,25 +1,8 @@
 -- What has come out of a port is what the entries put out.
-use Rattle.std.proofs.Common.{◌≡◌, ℕ, ◌+◌, ◌-◌, Bool, true, false, cond, inl, inr, List, [], ◌∷◌, ◌++◌, length, set, take, refl, sym, ap, subst, ◌∙◌, arith, append-nil, append_assoc, length-append, take-append-drop, Option, Some, None, slice_get, ne_eqb, eq-eqb}
-use Rattle.std.specs.Prelude.{◌==◌, ◌&&◌, nat_lt, nat_le}
-use Rattle.std.specs.Option.{option_map}
-use Rattle.std.proofs.lemmas.Bool.{and_parts, cases_eq, ltb-true, leb-true}
-use Rattle.std.proofs.lemmas.List.{length-take-le}
-use Rattle.std.proofs.lemmas.Option.{cond_some}
-use Rattle.tp_model.specs.declared.link.Token.{Token}
-use Rattle.tp_model.specs.declared.link.Token.TheVariants.{Data, Ack, Marker}
-use Rattle.tp_model.specs.declared.wire.WireEnd.{WireEnd}
-use Rattle.tp_model.specs.declared.wire.WireEnd.TheVariants.{Link, Port as AtPort}
-use Rattle.tp_model.specs.declared.entry.Entry.{Entry}
-use Rattle.tp_model.specs.declared.entry.Entry.TheVariants.{Run, Take, HostIn, Confirm, Turn}
-use Rattle.tp_model.specs.declared.limits.TheConstants.{MAX_STEPS}
-use Rattle.tp_model.specs.Network.{Machine, steps, Network, Port, Own, OfNode, OfHost, put, receiver, has_wire, sent}
-use Rattle.tp_model.specs.Entries.{HasFourLinks, process, port_took, acked, handed_in, confirmed, of_node, of_port, receives, does, next}
-use Rattle.tp_model.specs.Order.{after}
-use Rattle.tp_model.specs.Counted.{is_at}
+use Rattle.std.proofs.Common.{◌≡◌, ℕ, ◌+◌, ◌-◌, Bool, true, false, cond, inl, inr, List, [], ◌∷◌, ◌++◌, length, set, take, refl, sym, ap, subst, ◌∙◌, arith, append-nil, append_assoc, length-append, Option, Some, None, ne_eqb, eq-eqb}
+use Rattle.std.specs.Prelude.{slice_get, ◌==◌, ◌&&◌, nat_lt, nat_le}
+use Rattle.tp_law_processes.proofs.Lower.{take-append-drop, option_map, and_parts, cases_eq, ltb-true, leb-true, length-take-le, cond_some, Token, Data, Ack, Marker, WireEnd, Link, AtPort, Entry, Run, Take, HostIn, Confirm, Turn, MAX_STEPS, Machine, steps, Network, Port, Own, OfNode, OfHost, put, receiver, has_wire, sent, HasFourLinks, process, port_took, acked, handed_in, confirmed, of_node, of_port, receives, does, next, after, is_at, tested, slice_get-set_same, slice_get-set_other, step_of, step_shape, own_host, port_step, turn_step, first_possible}
 use Rattle.tp_law_processes.specs.Outputs.{byte_out, bytes_out, Grew}
-use Rattle.tp_law_network.proofs.Partial.{cond_some as tested, slice_get-set_same, slice_get-set_other}
-use Rattle.tp_law_network.proofs.Local.{step_of, step_shape, own_host, port_step, turn_step}
-use Rattle.tp_law_network.proofs.Reorder.{first_possible}
 
 -- ## One port
 

@@ -1,21 +1,9 @@
 -- What entries lead to as a port's outputs is a part of what the journal puts out there.
 use Rattle.std.proofs.Common.{◌≡◌, ℕ, zero, suc, ◌+◌, ◌-◌, ◌≤◌, inl, inr, List, [], ◌∷◌, ◌++◌, length, take, drop, Some, refl, sym, ap, subst, ◌∙◌, arith, append_assoc}
 use Rattle.std.specs.Prelude.{slice_get}
-use Rattle.std.proofs.lemmas.List.{get_or_past, take-append-drop, take-append-le}
-use Rattle.std.proofs.lemmas.Option.{get_or_from_slice_get, slice_get_cases}
-use Rattle.std.proofs.Math.Seq.{drop-append-add}
-use Rattle.tp_model.specs.declared.entry.Entry.{Entry}
-use Rattle.tp_model.specs.NodeState.{NodeState}
-use Rattle.tp_model.specs.Node.{t414}
-use Rattle.tp_model.specs.Network.{Network, Port}
-use Rattle.tp_model.specs.DeviceAreas.{device_areas}
-use Rattle.tp_model.specs.Runs.{World, BeginsFormatted}
-use Rattle.tp_book.specs.Ports.{fresh_value}
-use Rattle.tp_law_machine.proofs.LinkLaws.{has_four_links}
+use Rattle.tp_law_processes.proofs.Lower.{get_or_past, take-append-drop, take-append-le, get_or_from_slice_get, slice_get_cases, drop-append-add, Entry, NodeState, t414, Network, Port, device_areas, World, BeginsFormatted, fresh_value, has_four_links, after_shape, LeadsToBytes, port_or_fresh}
 use Rattle.tp_law_processes.specs.Outputs.{bytes_out}
 use Rattle.tp_law_processes.proofs.Outputs.{after_grown, bytes_out-append}
-use Rattle.tp_law_network.proofs.Reorder.{after_shape}
-use Rattle.tp_stream.specs.Put.{LeadsToBytes, port_or_fresh}
 use Rattle.tp_law_processes.proofs.FreshPorts.{formatted_port}
 
 -- ## Lists

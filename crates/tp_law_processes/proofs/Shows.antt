@@ -1,26 +1,7 @@
 -- What the clauses of calls say of what was left and shown, in one form for all of them.
 use Rattle.std.proofs.Common.{◌≡◌, ℕ, ◌+◌, ◌-◌, ◌<◌, ◌≤◌, ◌⊎◌, inl, inr, List, [], ◌∷◌, ◌++◌, length, take, drop, Result, Ok, Err, sym, ap, ◌∙◌, arith}
 use Rattle.std.specs.Prelude.{map}
-use Rattle.std.specs.List.{AllByRecursion}
-use Rattle.std.proofs.lemmas.List.{take_all}
-use Rattle.tp_model.specs.declared.entry.Entry.{Entry}
-use Rattle.tp_model.specs.NodeState.{NodeState}
-use Rattle.tp_model.specs.Node.{t414}
-use Rattle.tp_model.specs.Network.{Network}
-use Rattle.tp_model.specs.Disk.{MayBe}
-use Rattle.tp_model.specs.DiskHistory.{LeavesOnly, State, moment}
-use Rattle.tp_model.specs.DeviceAreas.{device_areas}
-use Rattle.tp_model.specs.Opening.{Opened, next_of, verdict}
-use Rattle.tp_model.specs.Walks.{RecoversTo}
-use Rattle.tp_flush.specs.Follows.{Follows}
-use Rattle.tp_flush.proofs.Follows.{read_alone}
-use Rattle.tp_run.specs.declared.fault.RunFault.{RunFault}
-use Rattle.tp_run.specs.Outlet.{OutletValue}
-use Rattle.tp_run.specs.Outset.{outset_in}
-use Rattle.tp_run.specs.Ran.{IsCalled}
-use Rattle.tp_run.specs.Shown.{LeadsToOutputs}
-use Rattle.tp_stream_files.specs.Outputs.{OutputValue, given_of}
-use Rattle.tp_stream.specs.Put.{AreShown, ArePut, EachWith, Got, LeadsToBytes, PutPiece, port_or_fresh}
+use Rattle.tp_law_processes.proofs.Lower.{AllByRecursion, take_all, Entry, NodeState, t414, Network, MayBe, LeavesOnly, State, moment, device_areas, Opened, next_of, verdict, RecoversTo, Follows, read_alone, RunFault, OutletValue, outset_in, IsCalled, LeadsToOutputs, OutputValue, given_of, AreShown, ArePut, EachWith, Got, LeadsToBytes, PutPiece, port_or_fresh}
 use Rattle.tp_law_processes.specs.Processes.{ByCompaction, ByReading, ByRun, ByStream, Did, Showing, answered, got_showings, journal_of, outlet_showings, piece_showings, set_out_at, showings, sink_showings}
 
 -- Bytes were shown while the device was in some state. They are outputs where some first entries lead, no fewer than the device had when it was

@@ -1,23 +1,6 @@
 -- What one process left as it was stopped, in its own journal.
 use Rattle.std.proofs.Common.{◌≡◌, ℕ, zero, suc, ◌<◌, ◌≤◌, ◌⊎◌, inl, inr, List, [], ◌∷◌, drop, Ok, refl, sym, ap, subst, ◌∙◌, arith}
-use Rattle.std.specs.List.{AllByRecursion}
-use Rattle.std.proofs.lemmas.Bool.{cases_lt}
-use Rattle.std.proofs.lemmas.List.{drop_all}
-use Rattle.tp_model.specs.declared.entry.Entry.{Entry}
-use Rattle.tp_model.specs.NodeState.{NodeState}
-use Rattle.tp_model.specs.Node.{t414}
-use Rattle.tp_model.specs.Network.{Network}
-use Rattle.tp_model.specs.Areas.{Held, next_number}
-use Rattle.tp_model.specs.Disk.{MayBe, Moment}
-use Rattle.tp_model.specs.DiskHistory.{MayHaveLeft, SomeMay, State, moment}
-use Rattle.tp_model.specs.DeviceAreas.{device_areas}
-use Rattle.tp_model.specs.Opening.{Opened, next_of, verdict}
-use Rattle.tp_model.specs.Runs.{World}
-use Rattle.tp_model.specs.Walks.{RecoversTo}
-use Rattle.tp_law_machine.proofs.Moments.{synced_may}
-use Rattle.tp_flush.specs.Known.{Began}
-use Rattle.tp_flush.specs.Follows.{Follows}
-use Rattle.tp_flush.proofs.Follows.{now_is}
+use Rattle.tp_law_processes.proofs.Lower.{AllByRecursion, cases_lt, drop_all, Entry, NodeState, t414, Network, Held, next_number, MayBe, Moment, MayHaveLeft, SomeMay, State, moment, device_areas, Opened, next_of, verdict, World, RecoversTo, synced_may, Began, Follows, now_is}
 use Rattle.tp_law_processes.specs.Processes.{Process, Showing, answered, journal_of, showings}
 use Rattle.tp_law_processes.proofs.Shows.{IsShowing, facts}
 

@@ -1,3 +1,4 @@
+pub mod Lower
 pub mod OneHistory
 pub mod Outputs
 pub mod Processes

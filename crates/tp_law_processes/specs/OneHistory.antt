@@ -1,16 +1,7 @@
 -- What processes, one after the other, leave and have shown: parts of one history.
 use Rattle.std.specs.Prelude.{◌≡◌, ◌<◌, ◌≤◌, ℕ, List, length, take, drop, Some, Ok, slice_get}
-use Rattle.std.specs.List.{AllByRecursion}
-use Rattle.tp_model.specs.declared.entry.Entry.{Entry}
-use Rattle.tp_model.specs.NodeState.{NodeState}
-use Rattle.tp_model.specs.Node.{t414}
-use Rattle.tp_model.specs.Network.{Network}
-use Rattle.tp_model.specs.Order.{after}
-use Rattle.tp_model.specs.DiskHistory.{moment}
-use Rattle.tp_model.specs.Opening.{Opened, next_of, verdict}
-use Rattle.tp_model.specs.Runs.{World}
+use Rattle.tp_law_processes.specs.Lower.{AllByRecursion, Entry, NodeState, t414, Network, after, moment, Opened, next_of, verdict, World, Began}
 use Rattle.tp_law_processes.specs.Outputs.{bytes_out}
-use Rattle.tp_flush.specs.Known.{Began}
 use Rattle.tp_law_processes.specs.Processes.{Process, Showing, answered, journal_of, last_left, showings}
 
 -- Bytes open to the network where all entries of a journal lead, which are as many as its next number says.

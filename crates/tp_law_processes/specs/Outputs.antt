@@ -1,11 +1,6 @@
 -- All that a port has put out, by the entries alone.
 use Rattle.std.specs.Prelude.{◌≡◌, ℕ, ◌+◌, if◌then◌else◌, List, [], ◌∷◌, ◌++◌, length, Option}
-use Rattle.tp_model.specs.declared.link.Token.TheVariants.{Data, Ack, Marker}
-use Rattle.tp_model.specs.declared.wire.WireEnd.{WireEnd}
-use Rattle.tp_model.specs.declared.entry.Entry.{Entry}
-use Rattle.tp_model.specs.declared.entry.Entry.TheVariants.{Run, Take, HostIn, Confirm, Turn}
-use Rattle.tp_model.specs.Network.{Port, receiver}
-use Rattle.tp_model.specs.Counted.{is_at}
+use Rattle.tp_law_processes.specs.Lower.{Data, Ack, Marker, WireEnd, Entry, Run, Take, HostIn, Confirm, Turn, Port, receiver, is_at}
 
 -- the byte that comes out of port p by an entry, if one does
 abbrev pub byte_out : List (Option WireEnd) → ℕ → Entry → List ℕ

@@ -1,25 +1,7 @@
 -- Processes over one device, one after the other: what each did by the clause of its call, what it showed, and what it acknowledged.
 use Rattle.std.specs.Prelude.{◌≡◌, ◌≤◌, ◌⊎◌, ℕ, ◌+◌, List, [], ◌∷◌, ◌++◌, length, map, Result, Ok, Err}
 use Rattle.std.proofs.Common.{inl, inr}
-use Rattle.tp_model.specs.declared.entry.Entry.{Entry}
-use Rattle.tp_model.specs.NodeState.{NodeState}
-use Rattle.tp_model.specs.Network.{Network}
-use Rattle.tp_model.specs.DiskHistory.{IsSynced, MayHaveLeft, State, moment}
-use Rattle.tp_model.specs.Opening.{Opened, next_of}
-use Rattle.tp_recover.specs.Reading.{LeavesNothingNew}
-use Rattle.tp_run.specs.declared.compacting.CompactFault.{CompactFault}
-use Rattle.tp_run.specs.declared.compacting.Compaction.{Compaction}
-use Rattle.tp_run.specs.declared.fault.RunFault.{RunFault}
-use Rattle.tp_run.specs.declared.job.Job.{Job}
-use Rattle.tp_run.specs.Compacted.{Compacted}
-use Rattle.tp_run.specs.Outlet.{OutletValue}
-use Rattle.tp_run.specs.Outset.{outset_in}
-use Rattle.tp_run.specs.Ran.{IsCalled, RanInto}
-use Rattle.tp_stream_files.specs.Outputs.{OutputValue, given_of}
-use Rattle.tp_stream_files.specs.declared.ending.Ended.{Ended}
-use Rattle.tp_stream.specs.declared.fault.StreamFault.{StreamFault}
-use Rattle.tp_stream.specs.Put.{AreShown, EachWith, Got, PutPiece, StreamedInto}
-use Rattle.tp_stream.specs.Standing.{from_of, stands_opened}
+use Rattle.tp_law_processes.specs.Lower.{Entry, NodeState, Network, IsSynced, MayHaveLeft, State, moment, Opened, next_of, LeavesNothingNew, CompactFault, Compaction, RunFault, Job, Compacted, OutletValue, outset_in, IsCalled, RanInto, OutputValue, given_of, Ended, StreamFault, AreShown, EachWith, Got, PutPiece, StreamedInto, from_of, stands_opened}
 
 -- What a process did between two states of its device, by the clause of its call: a run, a stream, a compaction, or a call that wrote nothing.
 pub data Did (start : Network NodeState) (old new : State) : Type 0 where

@@ -2,15 +2,7 @@
 #![tactic(auto)]
 
 ghost use Rattle.std.specs.Prelude.{◌≡◌, ℕ, List, Some, Ok, slice_get};
-ghost use Rattle.tp_model.specs.declared.entry.Entry.{Entry};
-ghost use Rattle.tp_model.specs.NodeState.{NodeState};
-ghost use Rattle.tp_model.specs.Node.{t414};
-ghost use Rattle.tp_model.specs.Network.{Network, Port};
-ghost use Rattle.tp_model.specs.Order.{after};
-ghost use Rattle.tp_model.specs.DeviceAreas.{device_areas};
-ghost use Rattle.tp_model.specs.Opening.{Opened, next_of, verdict};
-ghost use Rattle.tp_model.specs.Runs.{World, BeginsFormatted};
-ghost use Rattle.tp_flush.specs.Known.{Began};
+ghost use Rattle.tp_law_processes.specs.Lower.{Entry, NodeState, t414, Network, Port, after, device_areas, Opened, next_of, verdict, World, BeginsFormatted, Began};
 ghost use Rattle.tp_law_processes.specs.Processes.{AreInOrder, Process};
 ghost use Rattle.tp_law_processes.specs.OneHistory.{OneHistory};
 ghost use Rattle.tp_law_processes.specs.Outputs.{Grew, bytes_out};

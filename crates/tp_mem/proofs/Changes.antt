@@ -1,14 +1,7 @@
 -- Writes leave the bytes of every page in which they write none.
 use Rattle.std.proofs.Common.{◌≡◌, ℕ, zero, suc, ◌+◌, ◌-◌, ◌*◌, ◌%◌, ◌<◌, ◌≤◌, ◌⊎◌, inl, inr, Bool, true, false, ◌&&◌, cond, List, [], ◌∷◌, ◌++◌, length, Option, Some, None, get_or, take, drop, refl, sym, ap, subst, ◌∙◌, arith, ltb, eqb, min, append_assoc}
-use Rattle.std.proofs.lemmas.Bool.{cond_both, ltb-true, lt-ltb, and_parts, or_parts, leb-true}
-use Rattle.std.proofs.lemmas.List.{ext_get_or, get_or-take, get_or-drop, length-take, length-take-le, length-drop, length-append}
-use Rattle.std.proofs.lemmas.List.Folds.{list_any-append}
-use Rattle.std.specs.List.{list_any}
 use Rattle.std.specs.Prelude.{slice_range, option_and_then}
-use Rattle.std.specs.Int.{to_le_bytes, w32}
-use Rattle.tp_model.specs.declared.limits.TheConstants.{PAGE_BYTES}
-use Rattle.tp_model.specs.Memory.{offset, word_offset, set_byte, set_word, byte_stored, stored, is_inside, moved, copied, changed}
-use Rattle.tp_model.specs.SharedPages.{touches, word_ranges, block_ranges, byte_ranges}
+use Rattle.tp_mem.proofs.Lower.{cond_both, ltb-true, lt-ltb, and_parts, or_parts, leb-true, ext_get_or, get_or-take, get_or-drop, length-take, length-take-le, length-drop, length-append, list_any-append, list_any, to_le_bytes, w32, PAGE_BYTES, offset, word_offset, set_byte, set_word, byte_stored, stored, is_inside, moved, copied, changed, touches, word_ranges, block_ranges, byte_ranges}
 use Rattle.tp_mem.specs.After.{changed_after}
 use Rattle.tp_mem.specs.Bytes.{byte_changed}
 use Rattle.tp_mem.specs.Contents.{page_of}

@@ -1,14 +1,8 @@
 -- Pages of the frozen bytes, and the frames that hold copies.
 use Rattle.std.proofs.Common.{◌≡◌, ℕ, zero, suc, ◌+◌, ◌-◌, ◌*◌, ◌<◌, ◌≤◌, Bool, true, false, List, [], ◌∷◌, ◌++◌, length, Option, Some, None, get_or, set, take, drop, replicate, refl, sym, ap, subst, ◌∙◌, arith}
-use Rattle.std.specs.Option.{ForSome}
-use Rattle.std.proofs.lemmas.List.{get_or-set_same, get_or-set_other, length-append, length-take-le, length-drop, take-append-drop, drop-drop}
-use Rattle.std.proofs.Math.Seq.{take-append_seam}
-use Rattle.tp_model.specs.declared.limits.TheConstants.{PAGE_BYTES}
-use Rattle.tp_model.specs.Frames.{HeldFrame, Frames, frame, held_owners, held_bytes, owners_of, bytes_of, free_in}
-use Rattle.tp_model.specs.SharedPages.{private_in}
+use Rattle.tp_mem.proofs.Lower.{ForSome, get_or-set_same, get_or-set_other, length-append, length-take-le, length-drop, take-append-drop, drop-drop, take-append_seam, PAGE_BYTES, HeldFrame, Frames, frame, held_owners, held_bytes, owners_of, bytes_of, free_in, private_in, vacancy, free_in-set}
 use Rattle.tp_mem.specs.Contents.{page_of}
 use Rattle.tp_mem.specs.Copies.{frozen_bytes, frozen_from, shared_of, copied_in, without_copy, IsElsewhere, AreCopies}
-use Rattle.tp_frames.proofs.Frames.{vacancy, free_in-set}
 
 -- a frame with one owner, and another entry in its place
 abbrev pub copy_of : List ℕ → Option HeldFrame

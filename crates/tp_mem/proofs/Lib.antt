@@ -1,3 +1,4 @@
+pub mod Lower
 pub mod Changes
 pub mod Copies
 pub mod Kept

@@ -1,11 +1,6 @@
 -- Which pages stay shared after writes.
 use Rattle.std.proofs.Common.{◌≡◌, ℕ, zero, suc, ◌+◌, ◌-◌, ◌*◌, ◌/◌, ◌<◌, ◌≤◌, Bool, true, false, not, ◌&&◌, ◌||◌, if◌then◌else◌, List, All, [], ◌∷◌, length, get_or, set, drop, refl, sym, ap, ◌∙◌, arith, ltb}
-use Rattle.std.proofs.lemmas.Bool.{ltb-true, and_parts, or_parts}
-use Rattle.std.proofs.Math.Seq.{drop-cons}
-use Rattle.std.specs.List.{list_any}
-use Rattle.tp_model.specs.declared.limits.TheConstants.{PAGE_BYTES}
-use Rattle.tp_model.specs.Memory.{word_offset}
-use Rattle.tp_model.specs.SharedPages.{Kept, word_ranges, touches, shared_from, wanted_from, private_in, kept_behind, LacksFrames}
+use Rattle.tp_mem.proofs.Lower.{ltb-true, and_parts, or_parts, drop-cons, list_any, PAGE_BYTES, word_offset, Kept, word_ranges, touches, shared_from, wanted_from, private_in, kept_behind, LacksFrames}
 
 -- the words that are written, as ranges
 pub list_any-word_ranges : (p : ℕ × ℕ → Bool) (words : List (ℕ × ℕ)) → list_any p (word_ranges words) ≡ list_any (λ word. p (word_offset word.0, 4)) words

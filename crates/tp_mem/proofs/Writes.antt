@@ -2,8 +2,7 @@
 -- here, too.
 use Rattle.std.proofs.Common.{Bool, ◌≡◌, ℕ, ◌+◌, ◌%◌, ◌<◌, ◌≤◌, true, false, ◌&&◌, cond, List, [], ◌∷◌, length, Option, Some, None, ◌||◌, ltb, leb, eqb, refl, ap, ◌∙◌, arith}
 use Rattle.std.specs.Prelude.{option_and_then, is_some}
-use Rattle.std.proofs.lemmas.Bool.{cond_both, ltb-true, lt-ltb}
-use Rattle.tp_model.specs.Memory.{offset, word_offset, set_byte, set_word, byte_stored, stored, is_inside, moved, copied, changed}
+use Rattle.tp_mem.proofs.Lower.{cond_both, ltb-true, lt-ltb, offset, word_offset, set_byte, set_word, byte_stored, stored, is_inside, moved, copied, changed}
 use Rattle.tp_mem.specs.After.{changed_after}
 use Rattle.tp_mem.specs.Bytes.{byte_changed}
 use Rattle.tp_mem.specs.Ranges.{are_inside}

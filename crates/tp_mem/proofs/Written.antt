@@ -1,11 +1,7 @@
 -- What a write leaves of a memory that copied the pages before.
 use Rattle.std.proofs.Common.{◌≡◌, ℕ, ◌+◌, ◌-◌, ◌*◌, ◌<◌, Bool, true, false, List, ◌++◌, length, Option, Some, None, Ok, Err, get_or, take, drop, refl, sym, ap, ◌∙◌, arith, IsSome}
-use Rattle.std.proofs.Math.Seq.{take-append_seam}
 use Rattle.std.specs.Prelude.{is_some, IfSome}
-use Rattle.std.specs.List.{list_any}
-use Rattle.tp_model.specs.declared.limits.TheConstants.{PAGE_BYTES}
-use Rattle.tp_model.specs.Frames.{Frames}
-use Rattle.tp_model.specs.SharedPages.{touches, shared_from, wanted_from, private_in, kept_behind, LacksFrames}
+use Rattle.tp_mem.proofs.Lower.{take-append_seam, list_any, PAGE_BYTES, Frames, touches, shared_from, wanted_from, private_in, kept_behind, LacksFrames}
 use Rattle.tp_mem.specs.Contents.{page_of}
 use Rattle.tp_mem.specs.Copies.{Paged, kept_of, frozen_bytes, frozen_of, spare_in, IsPaged}
 use Rattle.tp_mem.specs.Stored.{IsStored}

@@ -1,9 +1,7 @@
 -- The parts of a memory that copies a page before the first write to it. Each page of the frozen bytes is either the live one, while it is
 -- shared, or a copy in a frame.
 use Rattle.std.specs.Prelude.{◌≡◌, ℕ, ◌+◌, ◌*◌, ◌≤◌, Bool, false, not, ◌&&◌, List, [], ◌∷◌, ◌++◌, length, set, Option, Some, None, is_some, if◌then◌else◌}
-use Rattle.tp_model.specs.Frames.{Frames, owners_of, bytes_of, free_in}
-use Rattle.tp_model.specs.SharedPages.{Kept}
-use Rattle.tp_model.specs.declared.limits.TheConstants.{MAX_PAGES, PAGE_BYTES}
+use Rattle.tp_mem.specs.Lower.{Frames, owners_of, bytes_of, free_in, Kept, MAX_PAGES, PAGE_BYTES}
 use Rattle.tp_mem.specs.Contents.{page_of}
 
 -- What contracts see:

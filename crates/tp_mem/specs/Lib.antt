@@ -1,3 +1,4 @@
+pub mod Lower
 pub mod After
 pub mod Bytes
 pub mod Contents

@@ -1,7 +1,6 @@
 -- Where writes of words go.
 use Rattle.std.specs.Prelude.{ℕ, Bool, List, nat_lt}
-use Rattle.std.specs.List.{list_all}
-use Rattle.tp_model.specs.Memory.{word_offset}
+use Rattle.tp_mem.specs.Lower.{list_all, word_offset}
 
 -- each word is inside a memory of `len` bytes
 abbrev pub are_inside : ℕ → List (ℕ × ℕ) → Bool

@@ -1,10 +1,9 @@
 //! The table of the copies of pages, each in a frame.
 
 ghost use Rattle.std.specs.Prelude.{◌≡◌, ◌+◌, ◌*◌, ◌≤◌, None, length, replicate, IfOk};
-ghost use Rattle.std.specs.Option.{ForSome};
+ghost use Rattle.tp_mem.specs.Lower.{ForSome, owners_of, free_in};
 ghost use Rattle.tp_mem.specs.Contents.{page_of};
 ghost use Rattle.tp_mem.specs.Copies.{AreCopies, copied_in, without_copy};
-ghost use Rattle.tp_model.specs.Frames.{owners_of, free_in};
 
 use std::alloc::{AllocError, Global};
 use tp_frames::{Frame, FrameId, FramePool};

@@ -1,8 +1,7 @@
 //! Parting shared pages from their frozen copies, before they are written.
 
 ghost use Rattle.std.specs.Prelude.{◌≡◌, ◌+◌, ◌-◌, ◌*◌, ◌/◌, ◌<◌, ◌≤◌, ◌^◌, [], ◌∷◌, ◌&&◌, not, if◌then◌else◌, true, false, length, get_or, set, ◌↔◌, IfOk, OnOk, OnErr, IsOk, IsSome};
-ghost use Rattle.std.specs.List.{list_any};
-ghost use Rattle.tp_model.specs.SharedPages.{block_ranges, word_ranges, touches, shared_from, private_in, wanted_from};
+ghost use Rattle.tp_mem.specs.Lower.{list_any, block_ranges, word_ranges, touches, shared_from, private_in, wanted_from};
 
 use crate::copy_table::page_at;
 use crate::cow::CowMemory;

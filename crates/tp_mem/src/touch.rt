@@ -1,10 +1,7 @@
 //! Which pages the ranges of writes have bytes in.
 
 ghost use Rattle.std.specs.Prelude.{◌≡◌, ℕ, ◌+◌, ◌*◌, ◌/◌, ◌<◌, ◌≤◌, ◌^◌, ◌∷◌, true, false, ◌&&◌, if◌then◌else◌, length, get_or, All, IfSome};
-ghost use Rattle.std.specs.List.{list_any};
-ghost use Rattle.tp_model.specs.declared.limits.TheConstants.{MAX_PAGES};
-ghost use Rattle.tp_model.specs.Memory.{word_offset};
-ghost use Rattle.tp_model.specs.SharedPages.{block_ranges, word_ranges, touches, wanted_from};
+ghost use Rattle.tp_mem.specs.Lower.{list_any, MAX_PAGES, word_offset, block_ranges, word_ranges, touches, wanted_from};
 
 use crate::address::{offset, word_offset};
 use tp_model::limits::PAGE_BYTES;

@@ -1,8 +1,7 @@
 //! Writes into a list of bytes.
 
 ghost use Rattle.std.specs.Prelude.{◌≡◌, ◌+◌, ◌%◌, ◌<◌, ◌≤◌, Some, length, slice_range, IsTrue, drop, ◌++◌};
-ghost use Rattle.std.specs.Int.{from_le_bytes, to_le_bytes, w32, w64};
-ghost use Rattle.tp_model.specs.Memory.{offset, word_offset, set_byte, set_word, stored, is_inside, copied, changed};
+ghost use Rattle.tp_mem.specs.Lower.{from_le_bytes, to_le_bytes, w32, w64, offset, word_offset, set_byte, set_word, stored, is_inside, copied, changed};
 ghost use Rattle.tp_mem.specs.After.{changed_after};
 ghost use Rattle.tp_mem.specs.Bytes.{byte_changed};
 ghost use Rattle.tp_mem.specs.Ranges.{are_inside};

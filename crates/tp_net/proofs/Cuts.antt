@@ -1,14 +1,7 @@
 -- Lists of bytes that are cut at a byte.
 use Rattle.std.proofs.Common.{◌≡◌, ℕ, suc, ◌+◌, ◌-◌, ◌<◌, ◌≤◌, Bool, true, false, cond, List, [], ◌∷◌, length, take, drop, refl, sym, ap, ◌∙◌, arith, Option, Some, None, length-drop}
 use Rattle.std.specs.Prelude.{◌&&◌, ◌==◌, not, nat_lt, position}
-use Rattle.std.specs.List.{slice_split, onto_first, position_or_len}
-use Rattle.std.specs.Option.{option_map}
-use Rattle.std.specs.Str.Lines.{lines, lines_of_parts, strip_carriage_return}
-use Rattle.std.proofs.lemmas.Bool.{ltb-true, ltb-false, eqb-true, ne_eqb, cond-false}
-use Rattle.std.proofs.lemmas.List.{take_all}
-use Rattle.std.proofs.lemmas.List.Splits.{slice_split_first, length-slice_split}
-use Rattle.std.proofs.lemmas.Option.{cond_some, none-some}
-use Rattle.tp_model.specs.TopologyWords.{is_link_digit, is_name, named_parts, named_end}
+use Rattle.tp_net.proofs.Lower.{slice_split, onto_first, position_or_len, option_map, lines, lines_of_parts, strip_carriage_return, ltb-true, ltb-false, eqb-true, ne_eqb, cond-false, take_all, slice_split_first, length-slice_split, cond_some, none-some, is_link_digit, is_name, named_parts, named_end}
 use Rattle.tp_net.specs.Ends.{end_of_parts}
 
 -- ## Cuts

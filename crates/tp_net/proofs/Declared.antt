@@ -1,15 +1,7 @@
 -- What a line declares, test by test.
 use Rattle.std.proofs.Common.{◌≡◌, ℕ, ◌++◌, ◌<◌, ◌≤◌, Bool, true, false, cond, List, [], ◌∷◌, length, refl, sym, ap, ◌∙◌, inl, Option, Some, None, Result, Ok, Err}
 use Rattle.std.specs.Prelude.{◌&&◌, ◌||◌, not, nat_le, IfErr, OnOk}
-use Rattle.std.specs.Borrow.{Bor}
-use Rattle.std.specs.Option.{option_map, option_copied}
-use Rattle.std.specs.Str.Parse.{digits_value}
-use Rattle.std.proofs.lemmas.Bool.{le-leb, lt-leb}
-use Rattle.tp_model.specs.declared.topology.NetFault.{NetFault}
-use Rattle.tp_model.specs.declared.topology.NetFault.TheVariants.{Memory, Syntax, TooMany}
-use Rattle.tp_model.specs.declared.limits.TheConstants.{MAX_NODES, MAX_PORTS}
-use Rattle.tp_model.specs.TopologyWords.{is_name, is_pages}
-use Rattle.tp_model.specs.TopologyText.{Said, after_node, after_port, is_known}
+use Rattle.tp_net.proofs.Lower.{Bor, option_map, option_copied, digits_value, le-leb, lt-leb, NetFault, Memory, Syntax, TooMany, MAX_NODES, MAX_PORTS, is_name, is_pages, Said, after_node, after_port, is_known}
 use Rattle.tp_net.specs.Ends.{end_of_parts, link_in}
 use Rattle.tp_net.specs.Steps.{IsStep}
 

@@ -1,3 +1,4 @@
+pub mod Lower
 pub mod Numerals
 pub mod Names
 pub mod Cuts

@@ -1,10 +1,6 @@
 -- Markers on lines: tokens that go round without them, and searching for one.
 use Rattle.std.proofs.Common.{◌≡◌, ℕ, ◌+◌, ◌<◌, ◌≤◌, Bool, true, false, cond, inl, inr, List, [], ◌∷◌, ◌++◌, length, take, drop, refl, sym, ap, ◌∙◌, arith, append-nil, append_assoc, length-append, length-take, length-drop, get_or, Some, slice_get}
-use Rattle.std.proofs.lemmas.Bool.{cases_Bool}
-use Rattle.std.proofs.lemmas.List.{drop_more, take_more}
-use Rattle.std.proofs.lemmas.Option.{get_or_from_slice_get, slice_get_within}
-use Rattle.tp_model.specs.declared.link.Token.{Token}
-use Rattle.tp_model.specs.Markers.{is_marker, has_marker, plain}
+use Rattle.tp_net.proofs.Lower.{cases_Bool, drop_more, take_more, get_or_from_slice_get, slice_get_within, Token, is_marker, has_marker, plain}
 
 plain_more : (us : List Token) (t : Token) → plain (us ++ t ∷ []) ≡ plain us ++ plain (t ∷ [])
 plain_more [] t = refl

@@ -1,13 +1,7 @@
 -- Names as text.
 use Rattle.std.proofs.Common.{◌≡◌, ℕ, ◌<◌, true, List, length, get_or, inl, inr, arith}
 use Rattle.std.specs.Prelude.{◌&&◌, ◌||◌, ◌==◌, nat_le}
-use Rattle.std.specs.List.{list_all}
-use Rattle.std.specs.Str.{IsUtf8, IsAscii}
-use Rattle.std.proofs.lemmas.Bool.{cases_lt, and_parts, or_cases, leb-true, eqb-true}
-use Rattle.std.proofs.lemmas.List.{get_or_past}
-use Rattle.std.proofs.lemmas.Str.{IsUtf8-from_ascii}
-use Rattle.tp_model.specs.TopologyWords.{is_letter, is_digit, is_name_byte, is_name}
-use Rattle.tp_model.specs.declared.limits.TheConstants.{MAX_NAME}
+use Rattle.tp_net.proofs.Lower.{list_all, IsUtf8, IsAscii, cases_lt, and_parts, or_cases, leb-true, eqb-true, get_or_past, IsUtf8-from_ascii, is_letter, is_digit, is_name_byte, is_name, MAX_NAME}
 use Rattle.tp_net.proofs.Numerals.{list_all_at}
 
 name_byte_below : (byte : ℕ) → is_name_byte byte ≡ true → byte < 128

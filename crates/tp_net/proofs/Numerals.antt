@@ -1,16 +1,7 @@
 -- Decimal numbers, read digit by digit.
 use Rattle.std.proofs.Common.{◌≡◌, ℕ, zero, suc, ◌+◌, ◌-◌, ◌*◌, ◌<◌, Bool, true, false, cond, List, [], ◌∷◌, length, get_or, take, arith, Some, None}
 use Rattle.std.specs.Prelude.{◌&&◌, ◌==◌, not, nat_le}
-use Rattle.std.specs.List.{list_all}
-use Rattle.std.specs.Str.Parse.{digits_value}
-use Rattle.std.specs.Char.{digit_value}
-use Rattle.std.proofs.lemmas.Bool.{and_parts, and_right, leb-true, lt-leb, cond-false}
-use Rattle.std.proofs.lemmas.Int.Digits.{digits_value_more}
-use Rattle.std.proofs.lemmas.Str.{digit_value_digit}
-use Rattle.std.proofs.lemmas.Str.Parse.{digits_value-take-le}
-use Rattle.tp_model.specs.declared.limits.TheConstants.{MIN_PAGES, MAX_PAGES}
-use Rattle.tp_model.specs.Topology.{is_page_count}
-use Rattle.tp_model.specs.TopologyWords.{is_digit, is_pages}
+use Rattle.tp_net.proofs.Lower.{list_all, digits_value, digit_value, and_parts, and_right, leb-true, lt-leb, cond-false, digits_value_more, digit_value_digit, digits_value-take-le, MIN_PAGES, MAX_PAGES, is_page_count, is_digit, is_pages}
 
 -- each byte of a numeral is a digit
 pub list_all_at : {X : Type 0} (p : X → Bool) (xs : List X) (i : ℕ) (d : X) → list_all p xs ≡ true → i < length xs → p (get_or xs i d) ≡ true

@@ -1,17 +1,6 @@
 -- What a line says by its words, and what lines say one after another.
 use Rattle.std.proofs.Common.{◌≡◌, ℕ, ◌+◌, true, false, cond, List, [], ◌∷◌, ◌++◌, length, map, refl, sym, ap, subst, ◌∙◌, arith, Option, Result, Ok, Err}
-use Rattle.std.specs.Borrow.{Bor}
-use Rattle.std.specs.List.{range_with_len}
-use Rattle.std.specs.Str.Lines.{lines}
-use Rattle.std.proofs.lemmas.Bool.{cond-true, cond-false}
-use Rattle.std.proofs.lemmas.List.FromFn.{map-range_with_len_more}
-use Rattle.tp_model.specs.Results.{◌>>=◌}
-use Rattle.tp_model.specs.declared.topology.NetFault.{NetFault}
-use Rattle.tp_model.specs.declared.topology.NetFault.TheVariants.{Syntax}
-use Rattle.tp_model.specs.declared.wire.WireEnd.{WireEnd}
-use Rattle.tp_model.specs.Topology.{end_of}
-use Rattle.tp_model.specs.TopologyWords.{words, has_space_around, is_skipped}
-use Rattle.tp_model.specs.TopologyText.{Said, after_words, after_line, read_lines, nothing_said, read_text, finished, other_end}
+use Rattle.tp_net.proofs.Lower.{Bor, range_with_len, lines, cond-true, cond-false, map-range_with_len_more, ◌>>=◌, NetFault, Syntax, WireEnd, end_of, words, has_space_around, is_skipped, Said, after_words, after_line, read_lines, nothing_said, read_text, finished, other_end}
 use Rattle.tp_net.specs.NodeNames.{names_said, node_names}
 use Rattle.tp_net.specs.Steps.{IsRead, IsStep}
 

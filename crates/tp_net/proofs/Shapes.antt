@@ -1,23 +1,7 @@
 -- What the lines of a text declare is a topology, as far as it goes.
 use Rattle.std.proofs.Common.{◌≡◌, ℕ, zero, suc, ◌+◌, ◌-◌, ◌*◌, ◌/◌, ◌%◌, ◌<◌, ◌≤◌, Bool, true, false, cond, List, [], ◌∷◌, ◌++◌, length, get_or, map, refl, sym, ap, subst, ◌∙◌, arith, Option, Some, None, Result, Ok, Err}
 use Rattle.std.specs.Prelude.{◌&&◌, ◌||◌, ◌==◌, not, nat_lt, nat_le, bytes_eq, codes, IfOk}
-use Rattle.std.specs.List.{list_all, slice_split, range_with_len}
-use Rattle.std.specs.Option.{option_map}
-use Rattle.std.specs.Str.Parse.{digits_value}
-use Rattle.std.proofs.lemmas.Bool.{and_parts, and_from, or_parts, not-false, eq-eqb, ltb-true, ltb-false, lt-ltb, leb-true, leb-false, le-leb, cond-true, cond-false, false≢true, le-ltb, eqb-false}
-use Rattle.std.proofs.lemmas.List.{length_push, length-map, map-append}
-use Rattle.std.proofs.lemmas.List.FromFn.{length-map-range_with_len, get_or-map-range_with_len}
-use Rattle.std.proofs.lemmas.List.Quantifiers.{position-Some}
-use Rattle.tp_model.specs.declared.wire.WireEnd.{WireEnd}
-use Rattle.tp_model.specs.declared.wire.WireEnd.TheVariants.{Link, Port as AtPort}
-use Rattle.tp_model.specs.declared.topology.NetFault.{NetFault}
-use Rattle.tp_model.specs.declared.topology.NetFault.TheVariants.{Syntax, TwoWires, UnknownNode, TooMany}
-use Rattle.tp_model.specs.declared.limits.TheConstants.{MAX_NODES, MAX_PORTS}
-use Rattle.tp_model.specs.Results.{◌>>=◌}
-use Rattle.tp_model.specs.Network.{receiver, line_of}
-use Rattle.tp_model.specs.Topology.{is_end, is_page_count, is_topology, is_line, joins_link, leads_back, all_lead_back, end_of}
-use Rattle.tp_model.specs.TopologyWords.{words, has_space_around, is_skipped, is_digit, is_name, is_pages, is_link_digit, named_parts, named_end}
-use Rattle.tp_model.specs.TopologyText.{Said, node_named, port_named, is_known, end_named, same_end, are_ports, end_has_wire, after_node, after_port, wire_joined, after_ends, after_wire, after_words, after_line, read_lines, other_end, topology_of, finished, nothing_said}
+use Rattle.tp_net.proofs.Lower.{list_all, slice_split, range_with_len, option_map, digits_value, and_parts, and_from, or_parts, not-false, eq-eqb, ltb-true, ltb-false, lt-ltb, leb-true, leb-false, le-leb, cond-true, cond-false, false≢true, le-ltb, eqb-false, length_push, length-map, map-append, length-map-range_with_len, get_or-map-range_with_len, position-Some, WireEnd, Link, AtPort, NetFault, Syntax, TwoWires, UnknownNode, TooMany, MAX_NODES, MAX_PORTS, ◌>>=◌, receiver, line_of, is_end, is_page_count, is_topology, is_line, joins_link, leads_back, all_lead_back, end_of, words, has_space_around, is_skipped, is_digit, is_name, is_pages, is_link_digit, named_parts, named_end, Said, node_named, port_named, is_known, end_named, same_end, are_ports, end_has_wire, after_node, after_port, wire_joined, after_ends, after_wire, after_words, after_line, read_lines, other_end, topology_of, finished, nothing_said}
 use Rattle.tp_net.proofs.Wired.{Apart, Joined, apart_push, joined_more, joined_push, other_end-back, other_end-there}
 
 -- the numbers are within their limits, and the wires lead from ends that exist to others, none of them twice

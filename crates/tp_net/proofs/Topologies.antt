@@ -1,16 +1,7 @@
 -- What a topology keeps.
-use Rattle.std.proofs.Common.{◌≡◌, ℕ, zero, suc, ◌+◌, ◌<◌, ◌≤◌, List, [], ◌∷◌, length, take, get_or, ap, arith, true, subst}
-use Rattle.std.specs.Prelude.{◌&&◌, nat_le, nat_lt, nat_eq, Option, Some, None}
-use Rattle.std.specs.List.{list_all}
-use Rattle.std.proofs.lemmas.Bool.{and_parts, leb-true, ltb-true, eqb-true}
-use Rattle.std.proofs.lemmas.List.{get_or-take, length-take}
-use Rattle.tp_model.specs.declared.wire.WireEnd.{WireEnd}
-use Rattle.tp_model.specs.declared.wire.WireEnd.TheVariants.{Link, Port as AtPort}
-use Rattle.tp_model.specs.declared.limits.TheConstants.{MAX_NODES, MAX_PORTS}
-use Rattle.tp_model.specs.declared.head.HeadVersion.{HeadVersion}
-use Rattle.tp_model.specs.declared.head.HeadVersion.TheVariants.{Narrow, Wide}
-use Rattle.tp_model.specs.Head.{head_nodes, first_port, end_number}
-use Rattle.tp_model.specs.Topology.{Topology, all_lead_back, leads_back, is_end, joins_link, is_page_count, is_topology, line_count, node_count}
+use Rattle.std.proofs.Common.{◌≡◌, ℕ, zero, suc, ◌+◌, ◌<◌, ◌≤◌, List, [], ◌∷◌, length, take, get_or, ap, arith, true, subst, Option, Some, None, length-take}
+use Rattle.std.specs.Prelude.{◌&&◌, nat_le, nat_lt, nat_eq}
+use Rattle.tp_net.proofs.Lower.{list_all, and_parts, leb-true, ltb-true, eqb-true, get_or-take, WireEnd, Link, AtPort, MAX_NODES, MAX_PORTS, HeadVersion, Narrow, Wide, head_nodes, first_port, end_number, Topology, all_lead_back, leads_back, is_end, joins_link, is_page_count, is_topology, line_count, node_count}
 
 pub record HasShape (t : Topology) : Type 0 where
   pub some_nodes : 1 ≤ node_count t

@@ -1,13 +1,7 @@
 -- Wires that no end has twice lead both ways.
 use Rattle.std.proofs.Common.{◌≡◌, ℕ, ◌≤◌, Bool, true, false, cond, List, [], ◌∷◌, ◌++◌, refl, sym, ap, subst, ◌∙◌, arith, Some}
 use Rattle.std.specs.Prelude.{◌||◌, ◌==◌, nat_lt}
-use Rattle.std.specs.List.{list_any}
-use Rattle.std.proofs.lemmas.Bool.{and_parts, and_from, or_parts, or_from, or_left, or_right, eqb-true, eq-eqb, ltb-true, lt-ltb, cond-true, cond-false, false≢true, false_from_ne_true, both_ways}
-use Rattle.std.proofs.lemmas.Option.{none-some, same_Some}
-use Rattle.tp_model.specs.declared.wire.WireEnd.{WireEnd}
-use Rattle.tp_model.specs.declared.wire.WireEnd.TheVariants.{Link, Port as AtPort}
-use Rattle.tp_model.specs.Topology.{is_end}
-use Rattle.tp_model.specs.TopologyText.{same_end, are_ports, other_end}
+use Rattle.tp_net.proofs.Lower.{list_any, and_parts, and_from, or_parts, or_from, or_left, or_right, eqb-true, eq-eqb, ltb-true, lt-ltb, cond-true, cond-false, false≢true, false_from_ne_true, both_ways, none-some, same_Some, WireEnd, Link, AtPort, is_end, same_end, are_ports, other_end}
 
 -- ## Ends
 

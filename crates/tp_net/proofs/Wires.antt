@@ -1,9 +1,7 @@
 -- Wires that lead back.
-use Rattle.std.proofs.Common.{◌≡◌, ℕ, ◌+◌, ◌<◌, ◌≤◌, List, ◌∷◌, length, drop, get_or, ap, ◌∙◌, sym, Bool, true, false, refl}
-use Rattle.std.specs.Prelude.{◌&&◌, Option, None}
-use Rattle.std.proofs.lemmas.List.{at_drop_more, at_drop_all}
-use Rattle.tp_model.specs.declared.wire.WireEnd.{WireEnd}
-use Rattle.tp_model.specs.Topology.{all_lead_back, leads_back}
+use Rattle.std.proofs.Common.{◌≡◌, ℕ, ◌+◌, ◌<◌, ◌≤◌, List, ◌∷◌, length, drop, get_or, ap, ◌∙◌, sym, Bool, true, false, refl, Option, None}
+use Rattle.std.specs.Prelude.{◌&&◌}
+use Rattle.tp_net.proofs.Lower.{at_drop_more, at_drop_all, WireEnd, all_lead_back, leads_back}
 
 all_lead_back-cons : (N H line : ℕ) (wires ends : List (Option WireEnd)) (end : Option WireEnd)
     → all_lead_back N H wires line (end ∷ ends) ≡ (leads_back N H wires line end && all_lead_back N H wires (line + 1) ends)

@@ -1,7 +1,6 @@
 -- The ends of wires, as a text names them.
 use Rattle.std.specs.Prelude.{ℕ, ◌-◌, if◌then◌else◌, List, [], ◌∷◌, Option, Some, None}
-use Rattle.std.specs.Option.{option_map}
-use Rattle.tp_model.specs.TopologyWords.{is_link_digit, is_name}
+use Rattle.tp_net.specs.Lower.{option_map, is_link_digit, is_name}
 
 -- the number of a link, a digit from 0 to 3
 abbrev pub link_in : List ℕ → Option ℕ

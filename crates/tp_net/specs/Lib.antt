@@ -1,3 +1,4 @@
+pub mod Lower
 pub mod Ends
 pub mod Steps
 pub mod NodeNames

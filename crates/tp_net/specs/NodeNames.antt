@@ -1,8 +1,6 @@
 -- The names of a network's nodes.
 use Rattle.std.specs.Prelude.{ℕ, List, [], map, Result, Ok, Err}
-use Rattle.std.specs.Str.Lines.{lines}
-use Rattle.tp_model.specs.declared.topology.NetFault.{NetFault}
-use Rattle.tp_model.specs.TopologyText.{Said, read_lines, nothing_said}
+use Rattle.tp_net.specs.Lower.{lines, NetFault, Said, read_lines, nothing_said}
 
 -- each node's name
 abbrev pub names_said : Result Said NetFault → List (List ℕ)

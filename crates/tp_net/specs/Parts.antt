@@ -1,7 +1,6 @@
 -- Topologies by their parts.
 use Rattle.std.specs.Prelude.{ℕ, if◌then◌else◌, List, Option, Some, None}
-use Rattle.tp_model.specs.declared.wire.WireEnd.{WireEnd}
-use Rattle.tp_model.specs.Topology.{Topology, is_topology}
+use Rattle.tp_net.specs.Lower.{WireEnd, Topology, is_topology}
 
 -- the nodes' pages, the ports and the lines' receivers, whether they are a topology or not
 abbrev pub parts : List ℕ → ℕ → List (Option WireEnd) → Topology

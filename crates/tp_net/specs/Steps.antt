@@ -1,11 +1,6 @@
 -- What the reader of a topology's text keeps, and what a step of it leaves.
 use Rattle.std.specs.Prelude.{◌≡◌, ◌⊎◌, ℕ, List, map, Result, Ok, Err}
-use Rattle.std.specs.Borrow.{Bor}
-use Rattle.indexmap.specs.IndexMap.{IndexMap}
-use Rattle.indexmap.specs.IndexSet.{IndexSet}
-use Rattle.tp_model.specs.declared.topology.NetFault.{NetFault}
-use Rattle.tp_model.specs.declared.topology.NetFault.TheVariants.{Memory}
-use Rattle.tp_model.specs.TopologyText.{Said}
+use Rattle.tp_net.specs.Lower.{Bor, IndexMap, IndexSet, NetFault, Memory, Said}
 
 -- each node's name with its pages
 abbrev pub pages_by_name : {S : Type 0} → IndexMap (Bor (List ℕ)) ℕ S → List (List ℕ × ℕ)

@@ -1,9 +1,7 @@
 //! What the lines of a topology's text have declared.
 
 ghost use Rattle.std.specs.Prelude.{◌≡◌, ◌<◌, ◌≤◌, ◌+◌, ◌*◌, [], ◌∷◌, ◌++◌, false, true, IfSome, IfErr, IfOk, OnOk, length, map};
-ghost use Rattle.std.specs.Option.{option_map};
-ghost use Rattle.tp_model.specs.TopologyText.{after_ends, after_line, after_node, after_port, after_wire, after_words, are_ports, end_named, finished, end_has_wire, is_known, wire_joined, node_named, other_end, port_named, same_end, nothing_said, topology_of};
-ghost use Rattle.tp_model.specs.Topology.{end_of, is_topology};
+ghost use Rattle.tp_net.specs.Lower.{option_map, after_ends, after_line, after_node, after_port, after_wire, after_words, are_ports, end_named, finished, end_has_wire, is_known, wire_joined, node_named, other_end, port_named, same_end, nothing_said, topology_of, end_of, is_topology};
 ghost use Rattle.tp_net.specs.Steps.{IsRead, IsStep};
 
 use crate::ends::{MAX_LINES, end_of, port_line};
@@ -27,9 +25,8 @@ pub(crate) struct Declarations<'a> {
 
 impl<'a> Model for Declarations<'a> {
     ghost use Rattle.std.specs.Prelude.{◌≤◌, length};
-    ghost use Rattle.tp_model.specs.TopologyText.{Said as Words};
+    ghost use Rattle.tp_net.specs.Lower.{Words, MAX_NODES, MAX_PORTS};
     ghost use Rattle.tp_net.specs.Steps.{names_in, pages_by_name};
-    ghost use Rattle.tp_model.specs.declared.limits.TheConstants.{MAX_NODES, MAX_PORTS};
 
     ghost Value = { Words };
 

@@ -1,10 +1,7 @@
 //! The lines of a network by their ends.
 
 ghost use Rattle.std.specs.Prelude.{◌≡◌, ◌+◌, ◌*◌, ◌≤◌, ◌<◌, ◌^◌, IfSome, length};
-ghost use Rattle.std.specs.Option.{option_map};
-ghost use Rattle.tp_model.specs.Network.{line_of, receiver};
-ghost use Rattle.tp_model.specs.Topology.{end_of};
-ghost use Rattle.tp_model.specs.declared.limits.TheConstants.{MAX_PORTS};
+ghost use Rattle.tp_net.specs.Lower.{option_map, line_of, receiver, end_of, MAX_PORTS};
 
 use tp_model::WireEnd;
 use tp_model::limits::{MAX_NODES, MAX_PORTS};

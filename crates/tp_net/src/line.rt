@@ -1,8 +1,7 @@
 //! The lines of a network, with what is under way on them.
 
 ghost use Rattle.std.specs.Prelude.{◌≡◌, ◌≤◌, ◌<◌, [], ◌∷◌, ◌++◌, IfOk, length, drop, set, replicate, slice_get, ℕ};
-ghost use Rattle.tp_model.specs.Markers.{has_marker, is_marker, plain};
-ghost use Rattle.tp_model.specs.Network.{on_line};
+ghost use Rattle.tp_net.specs.Lower.{has_marker, is_marker, plain, on_line};
 
 use circular_buffer::HeapCircularBuffer;
 use std::alloc::{AllocError, Global};

@@ -1,10 +1,7 @@
 //! The rules of a topology.
 
 ghost use Rattle.std.specs.Prelude.{◌≡◌, ◌+◌, ◌*◌, ◌≤◌, ◌<◌, ◌^◌, ◌&&◌, nat_le, length};
-ghost use Rattle.std.specs.Option.{option_map};
-ghost use Rattle.std.specs.List.{list_all};
-ghost use Rattle.tp_model.specs.Network.{line_of, receiver};
-ghost use Rattle.tp_model.specs.Topology.{all_lead_back, is_end, is_line, is_page_count, is_topology, joins_link, leads_back};
+ghost use Rattle.tp_net.specs.Lower.{option_map, list_all, line_of, receiver, all_lead_back, is_end, is_line, is_page_count, is_topology, joins_link, leads_back};
 
 use crate::ends::{back, line_of, port_line};
 use tp_model::WireEnd;

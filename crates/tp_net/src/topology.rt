@@ -1,9 +1,7 @@
 //! A network's shape.
 
 ghost use Rattle.std.specs.Prelude.{◌≡◌, ◌≤◌, true, Ok, IfOk, OnOk, MatchResult, length, map};
-ghost use Rattle.std.specs.Str.Lines.{lines};
-ghost use Rattle.tp_model.specs.Topology.{is_topology, line_count};
-ghost use Rattle.tp_model.specs.TopologyText.{nothing_said, read_lines, read_text};
+ghost use Rattle.tp_net.specs.Lower.{lines, is_topology, line_count, nothing_said, read_lines, read_text};
 ghost use Rattle.tp_net.specs.NodeNames.{node_names};
 ghost use Rattle.tp_net.specs.Parts.{if_topology, parts};
 ghost use Rattle.tp_net.specs.Steps.{IsFaultOf, IsRead, IsStep};

@@ -1,11 +1,7 @@
 //! The words of a topology's text.
 
 ghost use Rattle.std.specs.Prelude.{◌≡◌, ◌==◌, ◌<◌, if◌then◌else◌, Some, None, length, map, filter, not, get_or, option_copied, position, IfOk, IfSome, MatchOption, ◌∷◌, []};
-ghost use Rattle.std.specs.Option.{option_map};
-ghost use Rattle.std.specs.List.{list_all, slice_split};
-ghost use Rattle.std.specs.Str.Lines.{lines, strip_carriage_return};
-ghost use Rattle.std.specs.Str.Parse.{digits_value};
-ghost use Rattle.tp_model.specs.TopologyWords.{has_space_around, is_digit, is_letter, is_link_digit, is_name, is_name_byte, is_pages, is_skipped, named_end, words};
+ghost use Rattle.tp_net.specs.Lower.{option_map, list_all, slice_split, lines, strip_carriage_return, digits_value, has_space_around, is_digit, is_letter, is_link_digit, is_name, is_name_byte, is_pages, is_skipped, named_end, words};
 ghost use Rattle.tp_net.specs.Ends.{end_of_parts, link_in};
 
 use std::alloc::{AllocError, Global};

@@ -1,12 +1,7 @@
 -- What a node's answers say: to a token, at the end of a run, to an image.
-use Rattle.std.proofs.Common.{◌≡◌, ℕ, ◌<◌, ◌≤◌, List, refl, sym, ap, arith, Option, Some, None, IsSome}
-use Rattle.std.specs.Prelude.{Ok, Err}
-use Rattle.std.specs.Option.{option_map}
-use Rattle.tp_model.specs.SharedPages.{LacksFrames}
-use Rattle.tp_model.specs.declared.link.Token.{Token}
-use Rattle.tp_model.specs.NodeState.{NodeState}
-use Rattle.tp_model.specs.Node.{node_step, on_link}
-use Rattle.tp_model.specs.Step.{step_of}
+use Rattle.std.proofs.Common.{◌≡◌, ℕ, ◌<◌, ◌≤◌, List, refl, sym, ap, arith, Option, Some, None, IsSome, Err}
+use Rattle.std.specs.Prelude.{Ok}
+use Rattle.tp_node.proofs.Lower.{option_map, LacksFrames, Token, NodeState, node_step, on_link, step_of}
 use Rattle.tp_node.specs.declared.run.Why.{Why}
 use Rattle.tp_node.specs.declared.run.Why.TheVariants.{Full, Idle, NoFrame, Halted}
 use Rattle.tp_node.specs.declared.fault.NoFrame.{NoFrame as NoFrameLeft}

@@ -1,20 +1,7 @@
 -- What a step does that asks something of an end of a link.
 use Rattle.std.proofs.Common.{◌≡◌, ℕ, zero, suc, ◌<◌, ◌≤◌, List, [], ◌∷◌, length, Option, Some, None, get_or, set, refl, sym, ap, subst, ◌∙◌, arith}
 use Rattle.std.specs.Prelude.{option_to_list, slice_get}
-use Rattle.std.proofs.lemmas.Option.{slice_get_past}
-use Rattle.tp_model.specs.LinkStep.{LinkOutcome, Did, Fails, begin_output, begin_input}
-use Rattle.tp_model.specs.Node.{halted, on_link, after_output, after_input, asks_output, asks_input}
-use Rattle.tp_model.specs.NodeState.{NodeState}
-use Rattle.tp_model.specs.NodeWrites.{begin_output_ranges, begin_input_ranges, where_done, asks_output_ranges, asks_input_ranges}
-use Rattle.tp_model.specs.Processor.{past}
-use Rattle.tp_model.specs.SharedPages.{Kept, LacksFrames}
-use Rattle.tp_model.specs.declared.link.InEnd.{InEnd}
-use Rattle.tp_model.specs.declared.link.OutEnd.{OutEnd}
-use Rattle.tp_model.specs.declared.link.Token.{Token}
-use Rattle.tp_model.specs.declared.processor.Cpu.{Cpu}
-use Rattle.tp_model.specs.declared.processor.Fault.{Fault}
-use Rattle.tp_model.specs.declared.request.InRequest.{InRequest}
-use Rattle.tp_model.specs.declared.request.OutRequest.{OutRequest}
+use Rattle.tp_node.proofs.Lower.{slice_get_past, LinkOutcome, Did, Fails, begin_output, begin_input, halted, on_link, after_output, after_input, asks_output, asks_input, NodeState, begin_output_ranges, begin_input_ranges, where_done, asks_output_ranges, asks_input_ranges, past, Kept, LacksFrames, InEnd, OutEnd, Token, Cpu, Fault, InRequest, OutRequest}
 use Rattle.tp_node.specs.LinkEnds.{IsDone}
 use Rattle.tp_node.specs.Makes.{Makes}
 use Rattle.tp_node.specs.StateWith.{state_with}

@@ -1,20 +1,6 @@
 -- Which tokens the ends of a node's links can take.
 use Rattle.std.proofs.Common.{◌≡◌, ℕ, ◌<◌, ◌≤◌, Bool, true, false, not, refl, sym, ap, ◌∙◌, Option, Some, None, IsSome, is_some, slice_get}
-use Rattle.std.proofs.lemmas.Bool.{le-ltb, lt-ltb}
-use Rattle.tp_model.specs.declared.link.Token.{Token}
-use Rattle.tp_model.specs.declared.link.Token.TheVariants.{Data, Ack, Marker}
-use Rattle.tp_model.specs.declared.link.OutEnd.{OutEnd}
-use Rattle.tp_model.specs.declared.link.OutEnd.TheVariants.{Idle as NoOutput, Waits}
-use Rattle.tp_model.specs.declared.link.InEnd.{InEnd}
-use Rattle.tp_model.specs.declared.link.InEnd.TheVariants.{Idle, Inputs, Enabled}
-use Rattle.tp_model.specs.declared.link.Arrival.{Arrival}
-use Rattle.tp_model.specs.Image.{IsNode}
-use Rattle.tp_model.specs.LinkEnd.{next_pointer, out_acked, in_arrived}
-use Rattle.tp_model.specs.Memory.{byte_at}
-use Rattle.tp_model.specs.Network.{◌>>=◌}
-use Rattle.tp_model.specs.Node.{took, waits, holds, waits_there, holds_there}
-use Rattle.tp_model.specs.NodeState.{NodeState}
-use Rattle.tp_law_machine.proofs.Taking.{takes_data, takes_ack}
+use Rattle.tp_node.proofs.Lower.{le-ltb, lt-ltb, Token, Data, Ack, Marker, OutEnd, NoOutput, Waits, InEnd, Idle, Inputs, Enabled, Arrival, IsNode, next_pointer, out_acked, in_arrived, byte_at, ◌>>=◌, took, waits, holds, waits_there, holds_there, NodeState, takes_data, takes_ack}
 
 -- what is there, the test says to be there
 there_is : {A : Type 0} (o : Option A) → IsSome o → is_some o ≡ true

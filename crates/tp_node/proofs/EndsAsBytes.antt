@@ -1,7 +1,6 @@
 -- Ends of links as bytes.
 use Rattle.std.proofs.Common.{◌≡◌, ℕ, ◌+◌, List, [], ◌∷◌, drop, add_assoc}
-use Rattle.std.proofs.lemmas.List.{drop-drop}
-use Rattle.tp_model.specs.EndBytes.{ends_at}
+use Rattle.tp_node.proofs.Lower.{drop-drop, ends_at}
 
 -- four ends are 16 bytes apart
 pub four_ends_apart : {End : Type 0} (end_at : List ℕ → End) (at : ℕ) (bytes : List ℕ)

@@ -1,7 +1,6 @@
 -- Words that are written after what a token puts into memory.
 use Rattle.std.proofs.Common.{◌≡◌, ℕ, ◌%◌, Bool, true, false, cond, ltb, List, [], ◌∷◌, length, Some, None, is_some, refl, sym, ap, ◌∙◌}
-use Rattle.tp_model.specs.Memory.{word_offset, word_at, set_word, stored}
-use Rattle.tp_mem.proofs.Writes.{length-stored, length-byte_stored}
+use Rattle.tp_node.proofs.Lower.{word_offset, word_at, set_word, stored, length-stored, length-byte_stored}
 use Rattle.tp_node.specs.declared.first.First.{First}
 use Rattle.tp_node.specs.declared.first.First.TheVariants.{Nothing, Byte, Word}
 use Rattle.tp_node.specs.First.{first_stored}

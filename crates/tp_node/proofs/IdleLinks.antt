@@ -1,9 +1,7 @@
 -- Ends that are one after the other in an image.
 use Rattle.std.proofs.Common.{◌≡◌, ℕ, suc, ◌+◌, ◌-◌, ◌*◌, ◌<◌, Bool, true, List, drop, ap, ◌∙◌, arith}
 use Rattle.std.specs.Prelude.{◌&&◌}
-use Rattle.std.specs.List.{list_all}
-use Rattle.std.proofs.lemmas.List.{drop-drop}
-use Rattle.tp_model.specs.EndBytes.{ends_at}
+use Rattle.tp_node.proofs.Lower.{list_all, drop-drop, ends_at}
 
 -- all are, if the first one is and those after it are
 pub ends_step : {End : Type 0} (p : End → Bool) (read : List ℕ → End) (n place : ℕ) (bytes : List ℕ)

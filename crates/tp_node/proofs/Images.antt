@@ -1,15 +1,9 @@
 -- What bytes that are an image keep, and why others are none.
-use Rattle.std.proofs.Common.{◌≡◌, ℕ, zero, suc, ◌+◌, ◌*◌, ◌<◌, ◌≤◌, true, false, ◌&&◌, List, [], ◌++◌, length, take, drop, Some, None, bytes_eq, refl, sym, ap, ◌∙◌, arith}
-use Rattle.std.proofs.lemmas.Bool.{cond_both, and_parts, eqb-true, leb-true}
-use Rattle.std.proofs.lemmas.List.{drop_all, drop_at, drop-append-le, get_or_append_left, length-drop}
-use Rattle.std.specs.Int.{from_le_bytes, w16, w32}
-use Rattle.tp_model.specs.declared.limits.TheConstants.{PAGE_BYTES, IMAGE_HEAD_BYTES, MIN_PAGES, MAX_PAGES}
+use Rattle.std.proofs.Common.{◌≡◌, ℕ, zero, suc, ◌+◌, ◌*◌, ◌<◌, ◌≤◌, true, false, List, [], ◌++◌, length, take, drop, Some, None, bytes_eq, refl, sym, ap, ◌∙◌, arith}
+use Rattle.std.specs.Prelude.{◌&&◌}
+use Rattle.tp_node.proofs.Lower.{cond_both, and_parts, eqb-true, leb-true, drop_all, drop_at, drop-append-le, get_or_append_left, length-drop, from_le_bytes, w16, w32, PAGE_BYTES, IMAGE_HEAD_BYTES, MIN_PAGES, MAX_PAGES, NodeState, u8_at, u16_at, u32_at, ends_at, out_end_at, in_end_at, transfer_at, cpu_at, page_count, image_head, node_at, is_node, node_of}
 use Rattle.tp_node.specs.declared.head.Head.{Head}
 use Rattle.tp_node.specs.StateWith.{state_with}
-use Rattle.tp_model.specs.NodeState.{NodeState}
-use Rattle.tp_model.specs.Bytes.{u8_at, u16_at, u32_at}
-use Rattle.tp_model.specs.EndBytes.{ends_at, out_end_at, in_end_at, transfer_at}
-use Rattle.tp_model.specs.Image.{cpu_at, page_count, image_head, node_at, is_node, node_of}
 
 -- the node that the bytes spell, by its parts
 pub node_at-parts : (bytes : List ℕ) (head : Head) → head.cpu ≡ cpu_at bytes → head.outputs ≡ ends_at out_end_at 4 (drop 44 bytes) → head.inputs ≡ ends_at in_end_at 4 (drop 108 bytes)

@@ -1,7 +1,6 @@
 -- What a node's memory keeps, seen from the node.
 use Rattle.std.proofs.Common.{◌≡◌, ℕ, List, Option, Some, None, is_some, refl, sym, true≢false}
-use Rattle.std.specs.Option.{option_map}
-use Rattle.tp_model.specs.NodeState.{NodeState}
+use Rattle.tp_node.proofs.Lower.{option_map, NodeState}
 use Rattle.tp_node.specs.declared.head.Head.{Head}
 use Rattle.tp_node.specs.NodeContents.{frozen_state}
 

@@ -1,13 +1,6 @@
 -- One step more after others.
 use Rattle.std.proofs.Common.{◌≡◌, ℕ, zero, suc, ◌+◌, List, [], ◌++◌, Some, refl, sym, ap, ◌∙◌, arith}
-use Rattle.std.proofs.lemmas.List.{append-nil, append_assoc}
-use Rattle.tp_model.specs.declared.link.Token.{Token}
-use Rattle.tp_model.specs.Network.{◌>>=◌, Machine, steps}
-use Rattle.tp_model.specs.NodeState.{NodeState}
-use Rattle.tp_model.specs.SharedPages.{Kept, kept_behind}
-use Rattle.tp_model.specs.Node.{node_step, t414}
-use Rattle.tp_model.specs.NodeWrites.{node_ranges, kept_behind_steps}
-use Rattle.tp_law_machine.proofs.Partial.{bind_some}
+use Rattle.tp_node.proofs.Lower.{append-nil, append_assoc, Token, ◌>>=◌, Machine, steps, NodeState, Kept, kept_behind, node_step, t414, node_ranges, kept_behind_steps, bind_some}
 
 pub one_more : {Node : Type 0} (M : Machine Node) (count : ℕ) (n m : Node) (sent : List (ℕ × Token)) (after : Node × List (ℕ × Token))
     → steps M count n ≡ Some (m, sent) → M.step m ≡ Some after → steps M (count + 1) n ≡ Some (after.0, sent ++ after.1)

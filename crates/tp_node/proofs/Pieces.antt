@@ -1,8 +1,6 @@
 -- Pieces of one length, written one after the other into a list.
 use Rattle.std.proofs.Common.{◌≡◌, ℕ, ◌+◌, ◌*◌, ◌-◌, ◌<◌, List, [], ◌∷◌, ◌++◌, length, take, drop, get_or, ap, ◌∙◌, arith}
-use Rattle.std.specs.List.{flat_map}
-use Rattle.std.proofs.lemmas.List.{append-nil, append_assoc, length-append, length-drop, take_at, drop_at, drop-drop, drop_all, take_more, take_all, length-take-le}
-use Rattle.std.proofs.lemmas.Grind.{flat_map-append}
+use Rattle.tp_node.proofs.Lower.{flat_map, append-nil, append_assoc, length-append, length-drop, take_at, drop_at, drop-drop, drop_all, take_more, take_all, length-take-le, flat_map-append}
 use borrow.Rule.Slice.PartMut.{put_mid}
 
 -- how many bytes pieces of n bytes each make

@@ -1,17 +1,8 @@
 -- A node for which nothing is left to do has no step.
 use Rattle.std.proofs.Common.{◌≡◌, ℕ, Bool, true, false, ◌==◌, List, refl, Option, Some, None, is_some}
 use Rattle.std.specs.Prelude.{◌&&◌}
-use Rattle.std.proofs.lemmas.Bool.{and_parts}
-use Rattle.tp_model.specs.Memory.{word_at}
-use Rattle.tp_model.specs.NodeState.{NodeState}
-use Rattle.tp_model.specs.Node.{node_step}
-use Rattle.tp_model.specs.Outcome.{Rests}
-use Rattle.tp_model.specs.Processor.{kept_at}
-use Rattle.tp_model.specs.Step.{idle, in_state, step_of}
-use Rattle.tp_model.specs.Word.{not_process}
-use Rattle.tp_model.specs.declared.processor.Cpu.{Cpu}
-use Rattle.tp_model.specs.declared.processor.State.{State}
-use Rattle.tp_model.specs.declared.processor.State.TheVariants.{Idle, High, Low}
+use Rattle.tp_node.proofs.Lower.{and_parts, word_at, NodeState, node_step, Rests, kept_at, idle, in_state, step_of, not_process, Cpu, State, High, Low}
+use Rattle.tp_model.specs.declared.processor.State.TheVariants.{Idle}
 use Rattle.tp_node.specs.Rest.{has_nobody, is_idle, is_nobody}
 
 idle_rests : (cpu : Cpu) (memory : List ℕ) (word : Option ℕ) → word_at memory kept_at ≡ word → is_nobody word ≡ true → (cpu.high.front == not_process) ≡ true → (cpu.low.front == not_process) ≡ true → idle cpu memory ≡ Rests

@@ -1,29 +1,8 @@
 -- How many tokens a node can send: one for each output end that waits for no acknowledge, and one for each input end that holds a byte. A
 -- step that sends takes one such end away, and no step adds one.
 use Rattle.std.proofs.Common.{◌≡◌, ℕ, ◌+◌, ◌≤◌, Bool, true, false, not, cond, List, [], ◌∷◌, length, set, get_or, Option, Some, None, is_some, refl, subst, arith, rules}
-use Rattle.std.specs.List.{slice_get, sum_by}
-use Rattle.std.proofs.lemmas.List.Sums.{sum_by-set, sum_by-cons}
-use Rattle.std.proofs.lemmas.Option.{slice_get_within, get_or_from_slice_get}
-use Rattle.tp_model.specs.Word.{bit}
-use Rattle.tp_model.specs.NodeState.{NodeState}
-use Rattle.tp_model.specs.LinkEnd.{is_waiting, is_holding, in_enabled, in_disabled}
-use Rattle.tp_model.specs.Processor.{descriptor_of, past}
-use Rattle.tp_model.specs.LinkStep.{LinkOutcome, Did, Fails, ◌>>=◌, begin_output, enabled, disabled, begin_input}
-use Rattle.tp_model.specs.Outcome.{Outcome, Next, Halts, Rests, Sends, Receives}
-use Rattle.tp_model.specs.Step.{step_of}
-use Rattle.tp_model.specs.Node.{on_link, halted, after_output, after_input, ended, node_step}
-use Rattle.tp_model.specs.declared.processor.Cpu.{Cpu}
-use Rattle.tp_model.specs.declared.link.Token.{Token}
-use Rattle.tp_model.specs.declared.link.OutEnd.{OutEnd}
-use Rattle.tp_model.specs.declared.link.OutEnd.TheVariants.{Idle as OutIdle, Waits}
-use Rattle.tp_model.specs.declared.link.InEnd.{InEnd}
-use Rattle.tp_model.specs.declared.link.InEnd.TheVariants.{Idle, Inputs, Enabled}
-use Rattle.tp_model.specs.declared.request.OutRequest.{OutRequest}
-use Rattle.tp_model.specs.declared.request.Wish.{Wish}
-use Rattle.tp_model.specs.declared.request.Wish.TheVariants.{Message, Enable, Disable}
-use Rattle.tp_law_machine.proofs.Bits.{bit_small}
-use Rattle.tp_law_machine.proofs.LinkEnds.{is_holding-filled}
-use Rattle.tp_law_machine.proofs.Partial.{bind_some}
+use Rattle.tp_node.proofs.Lower.{slice_get, sum_by, sum_by-set, sum_by-cons, slice_get_within, get_or_from_slice_get, bit, NodeState, is_waiting, is_holding, in_enabled, in_disabled, descriptor_of, past, LinkOutcome, Did, Fails, begin_output, enabled, disabled, begin_input, Outcome, Next, Halts, Rests, Sends, Receives, step_of, on_link, halted, after_output, after_input, ended, node_step, Cpu, Token, OutEnd, OutIdle, Waits, InEnd, Idle, Inputs, Enabled, OutRequest, Wish, Message, Enable, Disable, bit_small, is_holding-filled, bind_some}
+use Rattle.tp_model.specs.LinkStep.{◌>>=◌}
 
 -- an end may send a token
 abbrev pub can_send : OutEnd → ℕ

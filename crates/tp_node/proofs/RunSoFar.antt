@@ -1,19 +1,6 @@
 -- Steps of the processor that all lead on are steps of the node, and send nothing.
 use Rattle.std.proofs.Common.{◌≡◌, ℕ, zero, suc, ◌+◌, ◌≤◌, List, [], ◌++◌, Some, length, refl, sym, ap, ◌∙◌, subst, arith}
-use Rattle.std.proofs.lemmas.List.{append-nil, length-append}
-use Rattle.std.proofs.lemmas.Option.{option_and_then_some}
-use Rattle.tp_model.specs.declared.link.Token.{Token}
-use Rattle.tp_model.specs.NodeState.{NodeState}
-use Rattle.tp_model.specs.Outcome.{Outcome, Next, Halts, Rests, Sends, Receives}
-use Rattle.tp_model.specs.SharedPages.{Kept, kept_behind}
-use Rattle.tp_model.specs.Step.{step_of}
-use Rattle.tp_model.specs.StepWrites.{step_ranges}
-use Rattle.tp_model.specs.declared.processor.Cpu.{Cpu}
-use Rattle.tp_model.specs.Network.{steps}
-use Rattle.tp_model.specs.Node.{node_step, t414}
-use Rattle.tp_model.specs.NodeWrites.{node_ranges, kept_behind_steps}
-use Rattle.tp_cpu.specs.Advance.{CpuMoment, led, step_on, advanced_by}
-use Rattle.tp_mem.proofs.Kept.{frozen-kept_behind}
+use Rattle.tp_node.proofs.Lower.{append-nil, length-append, option_and_then_some, Token, NodeState, Outcome, Next, Halts, Rests, Sends, Receives, Kept, kept_behind, step_of, step_ranges, Cpu, steps, node_step, t414, node_ranges, kept_behind_steps, CpuMoment, led, step_on, advanced_by, frozen-kept_behind}
 use Rattle.tp_node.proofs.OneMore.{one_more, kept_one_more}
 use Rattle.tp_node.proofs.Room.{room, room_step}
 

@@ -1,19 +1,7 @@
 -- A token that is taken, by its parts.
-use Rattle.std.proofs.Common.{◌≡◌, ℕ, List, set, Option, Some, None, IsSome, Ok, Err, refl, sym, true≢false}
-use Rattle.std.specs.List.{slice_get}
-use Rattle.tp_model.specs.Memory.{byte_at}
-use Rattle.tp_model.specs.NodeState.{NodeState}
-use Rattle.tp_model.specs.Network.{◌>>=◌}
-use Rattle.tp_model.specs.LinkEnd.{next_pointer, out_acked, in_arrived}
-use Rattle.tp_model.specs.Node.{on_link, tell, placed, took_token}
-use Rattle.tp_model.specs.declared.processor.Cpu.{Cpu}
-use Rattle.tp_model.specs.declared.link.Token.{Token}
-use Rattle.tp_model.specs.declared.link.Token.TheVariants.{Data, Ack}
-use Rattle.tp_model.specs.declared.link.OutEnd.{OutEnd}
-use Rattle.tp_model.specs.declared.link.InEnd.{InEnd}
-use Rattle.tp_model.specs.declared.link.Arrival.{Arrival}
-use Rattle.tp_model.specs.declared.link.News.{News}
-use Rattle.tp_model.specs.NodeWrites.{place_range, tell_ranges, took_ranges}
+use Rattle.std.proofs.Common.{◌≡◌, ℕ, List, set, Option, Some, None, IsSome, Err, refl, sym, true≢false}
+use Rattle.std.specs.Prelude.{Ok}
+use Rattle.tp_node.proofs.Lower.{slice_get, byte_at, NodeState, ◌>>=◌, next_pointer, out_acked, in_arrived, on_link, tell, placed, took_token, Cpu, Token, Data, Ack, OutEnd, InEnd, Arrival, News, place_range, tell_ranges, took_ranges}
 use Rattle.tp_node.specs.declared.fault.NoFrame.{NoFrame}
 use Rattle.tp_node.specs.declared.first.First.{First}
 use Rattle.tp_node.specs.First.{first_stored, put_ranges, then_put}

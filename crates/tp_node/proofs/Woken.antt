@@ -1,14 +1,8 @@
 -- The process of a descriptor is queued, after what a token puts into memory.
 use Rattle.std.proofs.Common.{◌≡◌, ℕ, ◌%◌, true, false, List, [], ◌∷◌, ◌++◌, length, Option, Some, None, is_some, refl, sym, ap, ◌∙◌, true≢false}
 use Rattle.std.specs.Prelude.{option_and_then, if◌then◌else◌}
-use Rattle.tp_model.specs.Memory.{word_at, stored}
-use Rattle.tp_model.specs.Node.{bad_address, with_memory, wake}
-use Rattle.tp_model.specs.NodeState.{NodeState}
-use Rattle.tp_model.specs.NodeWrites.{wake_ranges}
-use Rattle.tp_model.specs.Processor.{queue_writes, queued}
-use Rattle.tp_model.specs.SharedPages.{word_ranges}
+use Rattle.tp_node.proofs.Lower.{word_at, stored, bad_address, with_memory, wake, NodeState, wake_ranges, queue_writes, queued, word_ranges, Cpu}
 use Rattle.tp_model.specs.StepWrites.{◌>>=◌}
-use Rattle.tp_model.specs.declared.processor.Cpu.{Cpu}
 use Rattle.tp_node.specs.First.{first_stored, stored_behind, put_ranges, then_put}
 use Rattle.tp_node.specs.Hears.{with_both}
 use Rattle.tp_node.specs.declared.first.First.{First}

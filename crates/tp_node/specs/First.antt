@@ -1,10 +1,7 @@
 -- What a token puts into memory, before the process is queued that it concerns.
 use Rattle.std.specs.Prelude.{◌≡◌, ℕ, List, [], ◌∷◌, ◌++◌, Option, Some, option_and_then}
-use Rattle.tp_model.specs.Memory.{byte_stored, stored}
-use Rattle.tp_model.specs.SharedPages.{byte_ranges}
-use Rattle.tp_model.specs.StepWrites.{◌>>=◌, word_range}
-use Rattle.tp_model.specs.declared.link.News.{News}
-use Rattle.tp_model.specs.declared.link.News.TheVariants.{Nobody, Process, Alternative}
+use Rattle.tp_node.specs.Lower.{byte_stored, stored, byte_ranges, word_range, News, Nobody, Process, Alternative}
+use Rattle.tp_model.specs.StepWrites.{◌>>=◌}
 use Rattle.tp_node.specs.declared.first.First.{First}
 use Rattle.tp_node.specs.declared.first.First.TheVariants.{Nothing, Byte, Word}
 

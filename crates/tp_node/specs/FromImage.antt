@@ -1,7 +1,6 @@
 -- What reading an image answers.
 use Rattle.std.specs.Prelude.{◌≡◌, ℕ, ◌/◌, false, length, replicate, min, Option, Some, None, Result, Ok, Err}
-use Rattle.tp_model.specs.declared.limits.TheConstants.{PAGE_BYTES}
-use Rattle.tp_model.specs.NodeState.{NodeState}
+use Rattle.tp_node.specs.Lower.{PAGE_BYTES, NodeState}
 use Rattle.tp_node.specs.declared.fault.ImageFault.{ImageFault}
 use Rattle.tp_node.specs.declared.fault.ImageFault.TheVariants.{BadImage, Memory}
 use Rattle.tp_node.specs.NodeContents.{NodeContents}

@@ -1,7 +1,6 @@
 -- What a call that tells a process of a token answers and leaves.
 use Rattle.std.specs.Prelude.{◌≡◌, ℕ, List, Option, Some, Result, Ok, Err}
-use Rattle.tp_model.specs.NodeState.{NodeState}
-use Rattle.tp_model.specs.declared.processor.Cpu.{Cpu}
+use Rattle.tp_node.specs.Lower.{NodeState, Cpu}
 use Rattle.tp_node.specs.declared.fault.NoFrame.{NoFrame}
 
 -- a node with another processor and another memory

@@ -1,11 +1,6 @@
 -- What a call that does what an instruction asks of an end of a link answers and leaves.
 use Rattle.std.specs.Prelude.{◌≡◌, ℕ, List, Option, Result, Ok, Err}
-use Rattle.tp_model.specs.SharedPages.{Kept, LacksFrames, kept_behind}
-use Rattle.tp_model.specs.LinkStep.{LinkOutcome, Did, Fails}
-use Rattle.tp_model.specs.declared.processor.Cpu.{Cpu}
-use Rattle.tp_model.specs.declared.link.Token.{Token}
-use Rattle.tp_cpu.specs.declared.undone.Undone.{Undone}
-use Rattle.tp_cpu.specs.declared.undone.Undone.TheVariants.{Faulty, NoFrame, Asks, Wants}
+use Rattle.tp_node.specs.Lower.{Kept, LacksFrames, kept_behind, LinkOutcome, Did, Fails, Cpu, Token, Undone, Faulty, NoFrame, Asks, Wants}
 
 -- it can be done
 abbrev pub IsDone : {End : Type 0} → LinkOutcome End → Type 0

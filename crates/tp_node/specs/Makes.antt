@@ -1,8 +1,6 @@
 -- What a call that makes a step of a node answers and leaves.
 use Rattle.std.specs.Prelude.{◌≡◌, ℕ, List, Option, Some, None, option_to_list}
-use Rattle.tp_model.specs.NodeState.{NodeState}
-use Rattle.tp_model.specs.SharedPages.{Kept, kept_behind}
-use Rattle.tp_model.specs.declared.link.Token.{Token}
+use Rattle.tp_node.specs.Lower.{NodeState, Kept, kept_behind, Token}
 use Rattle.tp_node.specs.declared.step.StepOutcome.{StepOutcome}
 use Rattle.tp_node.specs.declared.step.StepOutcome.TheVariants.{Step, Idle, NoFrame}
 

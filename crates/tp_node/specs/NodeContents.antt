@@ -1,8 +1,6 @@
 -- What a node holds.
 use Rattle.std.specs.Prelude.{ℕ, Bool, List, Option, Some, None}
-use Rattle.std.specs.Option.{option_map}
-use Rattle.tp_model.specs.SharedPages.{Kept}
-use Rattle.tp_model.specs.NodeState.{NodeState}
+use Rattle.tp_node.specs.Lower.{option_map, Kept, NodeState}
 use Rattle.tp_node.specs.declared.head.Head.{Head}
 use Rattle.tp_node.specs.StateWith.{state_with}
 

@@ -1,13 +1,7 @@
 -- An output after a word that is stored first.
 use Rattle.std.specs.Prelude.{ℕ, ◌==◌, if◌then◌else◌, List, [], ◌++◌, Option, None}
-use Rattle.tp_model.specs.SharedPages.{word_ranges}
-use Rattle.tp_model.specs.Processor.{save_writes}
-use Rattle.tp_model.specs.LinkStep.{LinkOutcome, ◌>>=◌, begin_output}
-use Rattle.tp_model.specs.declared.processor.Cpu.{Cpu}
-use Rattle.tp_model.specs.declared.link.OutEnd.{OutEnd}
-use Rattle.tp_model.specs.declared.request.OutRequest.{OutRequest}
-use Rattle.tp_cpu.specs.After.{held}
-use Rattle.tp_cpu.specs.AfterWrites.{first_ranges}
+use Rattle.tp_node.specs.Lower.{word_ranges, save_writes, LinkOutcome, begin_output, Cpu, OutEnd, OutRequest, held, first_ranges}
+use Rattle.tp_model.specs.LinkStep.{◌>>=◌}
 
 abbrev pub output_after : Option (ℕ × ℕ) → OutRequest → OutEnd → Cpu → List ℕ → LinkOutcome OutEnd
 output_after first request end cpu memory = held first memory >>= begin_output (record request { word = None }) end cpu

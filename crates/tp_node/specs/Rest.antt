@@ -1,12 +1,6 @@
 -- What is left to do for a node.
 use Rattle.std.specs.Prelude.{◌≡◌, ℕ, Bool, true, false, ◌&&◌, ◌==◌, Option, Some, None, if◌then◌else◌, is_some}
-use Rattle.tp_model.specs.Memory.{word_at}
-use Rattle.tp_model.specs.NodeState.{NodeState}
-use Rattle.tp_model.specs.Node.{node_step}
-use Rattle.tp_model.specs.Processor.{kept_at}
-use Rattle.tp_model.specs.Word.{not_process}
-use Rattle.tp_model.specs.declared.processor.State.{State}
-use Rattle.tp_model.specs.declared.processor.State.TheVariants.{Idle, High, Low}
+use Rattle.tp_node.specs.Lower.{word_at, NodeState, node_step, kept_at, not_process, State, Idle, High, Low}
 use Rattle.tp_node.specs.declared.rest.Rest.{Rest}
 use Rattle.tp_node.specs.declared.rest.Rest.TheVariants.{Halted, Quiet, Busy}
 

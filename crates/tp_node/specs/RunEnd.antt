@@ -1,7 +1,6 @@
 -- How a run of a node ends.
 use Rattle.std.specs.Prelude.{◌≡◌, ◌<◌, ℕ, None, IsSome}
-use Rattle.tp_model.specs.NodeState.{NodeState}
-use Rattle.tp_model.specs.Node.{node_step}
+use Rattle.tp_node.specs.Lower.{NodeState, node_step}
 use Rattle.tp_node.specs.declared.run.Why.{Why}
 use Rattle.tp_node.specs.declared.run.Why.TheVariants.{Full, Idle, NoFrame, Halted}
 

@@ -1,10 +1,7 @@
 -- The state of a node between its turns.
 use Rattle.std.specs.Prelude.{ℕ, Bool, true, false, ◌||◌, Option, Some, None, if◌then◌else◌, slice_get}
-use Rattle.tp_model.specs.NodeState.{NodeState}
-use Rattle.tp_model.specs.Node.{waits}
-use Rattle.tp_model.specs.declared.link.InEnd.{InEnd}
-use Rattle.tp_model.specs.declared.link.InEnd.TheVariants.{Inputs, Enabled, Idle}
-use Rattle.tp_model.specs.declared.processor.Fault.{Fault}
+use Rattle.tp_node.specs.Lower.{NodeState, waits, InEnd, Inputs, Enabled, Fault}
+use Rattle.tp_model.specs.declared.link.InEnd.TheVariants.{Idle}
 use Rattle.tp_node.specs.declared.standing.Standing.{Standing}
 use Rattle.tp_node.specs.declared.standing.Standing.TheVariants.{Halted, Waits, Free}
 

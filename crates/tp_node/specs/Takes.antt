@@ -1,12 +1,6 @@
 -- What a call that takes a token answers and leaves.
 use Rattle.std.specs.Prelude.{◌≡◌, ℕ, List, Option, Some, None, Result, Ok, Err}
-use Rattle.tp_model.specs.NodeState.{NodeState}
-use Rattle.tp_model.specs.Memory.{byte_at}
-use Rattle.tp_model.specs.Network.{◌>>=◌}
-use Rattle.tp_model.specs.LinkEnd.{next_pointer}
-use Rattle.tp_model.specs.Node.{on_link}
-use Rattle.tp_model.specs.declared.link.OutEnd.{OutEnd}
-use Rattle.tp_model.specs.declared.link.Token.{Token}
+use Rattle.tp_node.specs.Lower.{NodeState, byte_at, ◌>>=◌, next_pointer, on_link, OutEnd, Token}
 use Rattle.tp_node.specs.declared.fault.NoFrame.{NoFrame}
 
 -- the byte that leaves at the next acknowledge, if any is left

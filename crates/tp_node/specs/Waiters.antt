@@ -1,14 +1,6 @@
 -- The processes that wait at the links of a node.
 use Rattle.std.specs.Prelude.{ℕ, Bool, false, ◌==◌, if◌then◌else◌, List, Option, Some, None, slice_get}
-use Rattle.tp_model.specs.Alternative.{waiting}
-use Rattle.tp_model.specs.Memory.{word_at}
-use Rattle.tp_model.specs.Network.{◌>>=◌}
-use Rattle.tp_model.specs.NodeState.{NodeState}
-use Rattle.tp_model.specs.Processor.{saved_at, state_at, workspace}
-use Rattle.tp_model.specs.declared.link.InEnd.{InEnd}
-use Rattle.tp_model.specs.declared.link.InEnd.TheVariants.{Idle as InIdle, Inputs as IsInput, Enabled}
-use Rattle.tp_model.specs.declared.link.OutEnd.{OutEnd}
-use Rattle.tp_model.specs.declared.link.OutEnd.TheVariants.{Idle as OutIdle, Waits}
+use Rattle.tp_node.specs.Lower.{waiting, word_at, ◌>>=◌, NodeState, saved_at, state_at, workspace, InEnd, InIdle, IsInput, Enabled, OutEnd, OutIdle, Waits}
 use Rattle.tp_node.specs.declared.waiter.Deed.{Deed}
 use Rattle.tp_node.specs.declared.waiter.Deed.TheVariants.{Sends, Inputs, Chooses}
 use Rattle.tp_node.specs.declared.waiter.Waiter.{Waiter}

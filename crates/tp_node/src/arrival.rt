@@ -1,10 +1,7 @@
 //! Whom a token concerns, and what that changes.
 
 ghost use Rattle.std.specs.Prelude.{◌≡◌, ℕ, List, Some, IsSome};
-ghost use Rattle.tp_model.specs.Node.{bad_address, wake, tell};
-ghost use Rattle.tp_model.specs.NodeState.{NodeState};
-ghost use Rattle.tp_model.specs.NodeWrites.{wake_ranges, tell_ranges};
-ghost use Rattle.tp_model.specs.SharedPages.{LacksFrames};
+ghost use Rattle.tp_node.specs.Lower.{bad_address, wake, tell, NodeState, wake_ranges, tell_ranges, LacksFrames};
 ghost use Rattle.tp_node.specs.First.{GoesWith, first_stored, then_put};
 ghost use Rattle.tp_node.specs.Hears.{Hears, with_both};
 ghost use Rattle.tp_node.specs.LinkEnds.{kept_done};

@@ -1,9 +1,7 @@
 //! Ends of links as bytes.
 
 ghost use Rattle.std.specs.Prelude.{◌≡◌, ◌≤◌, ◌+◌, ◌*◌, ◌++◌, ◌==◌, length, drop, if◌then◌else◌};
-ghost use Rattle.tp_model.specs.Bytes.{u8_at};
-ghost use Rattle.std.specs.List.{flat_map};
-ghost use Rattle.tp_model.specs.EndBytes.{end_bytes, out_end_bytes, in_end_bytes, transfer_at, out_end_at, in_end_at, ends_at};
+ghost use Rattle.tp_node.specs.Lower.{u8_at, flat_map, end_bytes, out_end_bytes, in_end_bytes, transfer_at, out_end_at, in_end_at, ends_at};
 
 use crate::image_places::{END_BYTES, LEFT_PLACE, POINTER_PLACE, PROCESS_PLACE};
 use crate::{InEngine, OutEngine};

@@ -1,10 +1,7 @@
 //! A node apart from its memory, and the bytes before the memory in its image.
 
 ghost use Rattle.std.specs.Prelude.{◌≡◌, ◌≤◌, ◌+◌, ◌*◌, ◌∷◌, ◌++◌, ℕ, List, length, drop};
-ghost use Rattle.std.specs.List.{flat_map};
-ghost use Rattle.tp_model.specs.Bytes.{u16_bytes, u32_bytes, u32_at};
-ghost use Rattle.tp_model.specs.EndBytes.{ends_at, out_end_at, in_end_at};
-ghost use Rattle.tp_model.specs.Image.{words_of, cpu_at, page_count, image_head};
+ghost use Rattle.tp_node.specs.Lower.{flat_map, u16_bytes, u32_bytes, u32_at, ends_at, out_end_at, in_end_at, words_of, cpu_at, page_count, image_head};
 ghost use Rattle.tp_node.specs.StateWith.{state_with};
 
 use crate::code::{halt_byte, halt_of, state_byte, state_of};

@@ -1,10 +1,7 @@
 //! Whether the links of an image are idle.
 
 ghost use Rattle.std.specs.Prelude.{◌≡◌, ◌+◌, ◌^◌, ◌<◌, drop, length};
-ghost use Rattle.std.specs.List.{list_all};
-ghost use Rattle.tp_model.specs.Bytes.{u8_at};
-ghost use Rattle.tp_model.specs.EndBytes.{out_end_at, in_end_at, ends_at, is_idle_out, is_idle_in};
-ghost use Rattle.tp_model.specs.Image.{node_at, has_idle_links};
+ghost use Rattle.tp_node.specs.Lower.{list_all, u8_at, out_end_at, in_end_at, ends_at, is_idle_out, is_idle_in, node_at, has_idle_links};
 
 use crate::image_places::{END_BYTES, INPUTS_PLACE, LINKS, OUTPUTS_PLACE};
 

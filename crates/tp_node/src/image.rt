@@ -1,8 +1,7 @@
 //! Reading images.
 
 ghost use Rattle.std.specs.Prelude.{◌≡◌, ◌++◌, ℕ, List, length};
-ghost use Rattle.std.specs.Option.{option_map};
-ghost use Rattle.tp_model.specs.Image.{is_node, node_of};
+ghost use Rattle.tp_node.specs.Lower.{option_map, is_node, node_of};
 ghost use Rattle.tp_node.specs.StateWith.{state_with};
 
 use crate::head::Head;

@@ -1,13 +1,7 @@
 //! What an instruction does at the input end of a link.
 
 ghost use Rattle.std.specs.Prelude.{◌≡◌, ◌++◌, option_and_then};
-ghost use Rattle.tp_model.specs.Memory.{stored};
-ghost use Rattle.tp_model.specs.LinkEnd.{in_started, in_enabled, in_disabled};
-ghost use Rattle.tp_model.specs.LinkStep.{message, with_byte, take_up, enabled, disabled, begin_input};
-ghost use Rattle.tp_model.specs.Processor.{descriptor_of};
-ghost use Rattle.tp_model.specs.SharedPages.{word_ranges, kept_after};
-ghost use Rattle.tp_model.specs.NodeWrites.{byte_written, take_up_ranges, enabled_ranges, disabled_ranges, begin_input_ranges};
-ghost use Rattle.tp_cpu.specs.Ends.{Writes};
+ghost use Rattle.tp_node.specs.Lower.{stored, in_started, in_enabled, in_disabled, message, with_byte, take_up, enabled, disabled, begin_input, descriptor_of, word_ranges, kept_after, byte_written, take_up_ranges, enabled_ranges, disabled_ranges, begin_input_ranges, Writes};
 ghost use Rattle.tp_node.specs.LinkEnds.{LinkEnds, kept_done};
 
 use crate::InEngine;

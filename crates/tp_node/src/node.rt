@@ -1,12 +1,7 @@
 //! A node: its image, the tokens that come in, and how it is frozen.
 
 ghost use Rattle.std.specs.Prelude.{◌≡◌, ◌*◌, ◌<◌, ◌++◌, [], Some, None, true, false, length, replicate, IsSome, IsNone, IfSome, IfOk, is_some};
-ghost use Rattle.tp_model.specs.Image.{image_head, node_of, IsNode};
-ghost use Rattle.tp_model.specs.Network.{steps};
-ghost use Rattle.tp_model.specs.Node.{took, t414, waits, holds};
-ghost use Rattle.tp_model.specs.NodeWrites.{node_ranges, kept_behind_steps, took_ranges};
-ghost use Rattle.tp_model.specs.SharedPages.{LacksFrames};
-ghost use Rattle.tp_mem.specs.Contents.{page_of};
+ghost use Rattle.tp_node.specs.Lower.{image_head, node_of, IsNode, steps, took, t414, waits, holds, node_ranges, kept_behind_steps, took_ranges, LacksFrames, page_of};
 ghost use Rattle.tp_node.specs.FromImage.{ReadsImage, HasFrames};
 ghost use Rattle.tp_node.specs.LinkEnds.{kept_done};
 ghost use Rattle.tp_node.specs.NodeContents.{memory_kept};

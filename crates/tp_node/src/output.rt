@@ -1,13 +1,7 @@
 //! What an instruction does at the output end of a link.
 
 ghost use Rattle.std.specs.Prelude.{◌≡◌, ℕ, List, [], ◌∷◌, ◌++◌, Some, is_some};
-ghost use Rattle.tp_model.specs.Memory.{byte_at};
-ghost use Rattle.tp_model.specs.LinkStep.{begin_output};
-ghost use Rattle.tp_cpu.specs.After.{held, stored_after};
-ghost use Rattle.tp_model.specs.SharedPages.{word_ranges, kept_after};
-ghost use Rattle.tp_model.specs.NodeWrites.{begin_output_ranges};
-ghost use Rattle.tp_cpu.specs.AfterWrites.{first_ranges};
-ghost use Rattle.tp_cpu.specs.Ends.{Writes};
+ghost use Rattle.tp_node.specs.Lower.{byte_at, begin_output, held, stored_after, word_ranges, kept_after, begin_output_ranges, first_ranges, Writes};
 ghost use Rattle.tp_node.specs.LinkEnds.{LinkEnds, kept_done};
 ghost use Rattle.tp_node.specs.OutputAfter.{output_after, output_after_ranges};
 

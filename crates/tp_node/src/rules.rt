@@ -1,9 +1,7 @@
 //! The rules that a node's image keeps.
 
 ghost use Rattle.std.specs.Prelude.{◌≡◌, ◌<◌, ◌^◌, ℕ, List, length};
-ghost use Rattle.std.specs.List.{list_all};
-ghost use Rattle.tp_model.specs.EndBytes.{is_under_way, is_out_end, is_in_end};
-ghost use Rattle.tp_model.specs.Image.{is_memory};
+ghost use Rattle.tp_node.specs.Lower.{list_all, is_under_way, is_out_end, is_in_end, is_memory};
 
 use crate::{InEngine, OutEngine};
 use tp_mem::FIRST_ADDRESS;

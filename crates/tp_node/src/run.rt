@@ -1,10 +1,7 @@
 //! Runs of a node.
 
 ghost use Rattle.std.specs.Prelude.{◌≡◌, ◌≤◌, ◌+◌, [], ◌++◌, Some, is_some, if◌then◌else◌, length, option_to_list};
-ghost use Rattle.tp_model.specs.Network.{steps};
-ghost use Rattle.tp_model.specs.Node.{t414};
-ghost use Rattle.tp_model.specs.NodeWrites.{node_ranges, kept_behind_steps};
-ghost use Rattle.tp_model.specs.SharedPages.{LacksFrames};
+ghost use Rattle.tp_node.specs.Lower.{steps, t414, node_ranges, kept_behind_steps, LacksFrames};
 ghost use Rattle.tp_node.specs.RunEnd.{IsWhy};
 ghost use Rattle.tp_node.specs.StateWith.{state_with};
 

@@ -1,9 +1,7 @@
 //! One step of a node.
 
 ghost use Rattle.std.specs.Prelude.{◌≡◌, option_to_list};
-ghost use Rattle.tp_model.specs.Node.{on_link, asks_output, asks_input, node_step};
-ghost use Rattle.tp_model.specs.NodeWrites.{asks_output_ranges, asks_input_ranges, node_ranges};
-ghost use Rattle.tp_model.specs.SharedPages.{LacksFrames};
+ghost use Rattle.tp_node.specs.Lower.{on_link, asks_output, asks_input, node_step, asks_output_ranges, asks_input_ranges, node_ranges, LacksFrames};
 ghost use Rattle.tp_node.specs.Makes.{Makes, kept_made};
 ghost use Rattle.tp_node.specs.StateWith.{state_with};
 

@@ -1,9 +1,7 @@
 //! Tokens that come in.
 
 ghost use Rattle.std.specs.Prelude.{◌≡◌, ℕ, ◌<◌, List, None, IsSome};
-ghost use Rattle.tp_model.specs.Node.{placed, took_token};
-ghost use Rattle.tp_model.specs.NodeWrites.{place_range, took_ranges};
-ghost use Rattle.tp_model.specs.SharedPages.{LacksFrames};
+ghost use Rattle.tp_node.specs.Lower.{placed, took_token, place_range, took_ranges, LacksFrames};
 ghost use Rattle.tp_node.specs.First.{first_stored, put_ranges};
 ghost use Rattle.tp_node.specs.LinkEnds.{kept_done};
 ghost use Rattle.tp_node.specs.StateWith.{state_with};

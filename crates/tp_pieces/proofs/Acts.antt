@@ -1,30 +1,7 @@
 -- What is left of an entry, done or not by the process of a part.
-use Rattle.std.proofs.Common.{◌≡◌, ℕ, ◌<◌, ◌≤◌, Bool, true, false, cond, inl, inr, List, length, set, refl, sym, ap, subst, ◌∙◌, arith, Option, Some, None, slice_get}
-use Rattle.std.specs.Prelude.{MatchBool, nat_lt, nat_le, ◌&&◌, is_some}
-use Rattle.std.specs.Option.{option_map}
-use Rattle.std.proofs.lemmas.Bool.{cases_eq, true≢false}
-use Rattle.std.proofs.lemmas.Option.{slice_get_past}
-use Rattle.tp_model.specs.declared.link.Token.{Token}
-use Rattle.tp_model.specs.declared.link.Received.{Received}
-use Rattle.tp_model.specs.declared.wire.WireEnd.{WireEnd}
-use Rattle.tp_model.specs.declared.wire.WireEnd.TheVariants.{Link, Port as AtPort}
-use Rattle.tp_model.specs.declared.entry.Entry.{Entry}
-use Rattle.tp_model.specs.declared.entry.Entry.TheVariants.{Run, Take, HostIn, Confirm, Turn}
-use Rattle.tp_model.specs.declared.limits.TheConstants.{MAX_STEPS}
-use Rattle.tp_model.specs.NodeState.{NodeState}
-use Rattle.tp_model.specs.Network.{steps, Port, Network, Own, OfNode, OfHost, own, put, receiver, process_at, has_wire, on_line, sent}
-use Rattle.tp_model.specs.Entries.{process, of_node, of_port, does, receives, port_took, handed_in, confirmed, acts}
-use Rattle.tp_model.specs.Turn.{by_link, comes_in, turned}
-use Rattle.tp_model.specs.Sound.{owner}
-use Rattle.tp_model.specs.Node.{t414, took}
-use Rattle.tp_law_network.proofs.Lines.{for_line-elsewhere, on_sent_none}
-use Rattle.tp_law_network.proofs.Local.{put-length, put-lines, sends_own, own-host, own-node}
-use Rattle.tp_law_machine.proofs.LinkLaws.{has_four_links}
-use Rattle.tp_law_network.specs.Piece.{Piece, sends}
-use Rattle.tp_law_network.specs.Stops.{IsOverfull}
-use Rattle.tp_law_network.proofs.Steps.{Act, acts_from}
-use Rattle.tp_book.specs.Sends.{on_lines}
-use Rattle.tp_book.proofs.Owns.{own_there}
+use Rattle.std.proofs.Common.{◌≡◌, ℕ, ◌<◌, ◌≤◌, Bool, true, false, cond, inl, inr, List, length, set, refl, sym, ap, subst, ◌∙◌, arith, Option, Some, None, slice_get, nat_lt, nat_le}
+use Rattle.std.specs.Prelude.{MatchBool, ◌&&◌, is_some}
+use Rattle.tp_pieces.proofs.Lower.{option_map, cases_eq, true≢false, slice_get_past, Token, Received, WireEnd, Link, AtPort, Entry, Run, Take, HostIn, Confirm, Turn, MAX_STEPS, NodeState, steps, Port, Network, Own, OfNode, OfHost, own, put, receiver, process_at, has_wire, on_line, sent, process, of_node, of_port, does, receives, port_took, handed_in, confirmed, acts, by_link, comes_in, turned, owner, t414, took, for_line-elsewhere, on_sent_none, put-length, put-lines, sends_own, own-host, own-node, has_four_links, Piece, sends, IsOverfull, Act, acts_from, on_lines, own_there}
 use Rattle.tp_pieces.specs.Held.{HeldPart, has}
 use Rattle.tp_pieces.specs.Lanes.{Overfills}
 use Rattle.tp_pieces.specs.Behind.{behind_tokens, IsStuck, SameProcesses, DoesRest}

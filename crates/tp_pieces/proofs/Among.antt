@@ -1,8 +1,6 @@
 -- Nodes with others before them and after them.
 use Rattle.std.proofs.Common.{◌≡◌, ℕ, zero, suc, ◌+◌, ◌-◌, ◌<◌, List, [], ◌∷◌, ◌++◌, length, set, replicate, refl, ap, ◌∙◌, arith, length-append, slice_get, false, nat_le}
-use Rattle.std.proofs.lemmas.Bool.{lt-leb}
-use Rattle.std.proofs.lemmas.List.{length-replicate, set-append_left, set-append_right}
-use Rattle.tp_model.specs.NodeState.{NodeState}
+use Rattle.tp_pieces.proofs.Lower.{lt-leb, length-replicate, set-append_left, set-append_right, NodeState}
 use Rattle.tp_pieces.specs.Blank.{blank_node, among}
 
 pub length_among : (before : ℕ) (nodes : List NodeState) (behind : ℕ) → length (among before nodes behind) ≡ before + length nodes + behind

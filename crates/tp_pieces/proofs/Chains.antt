@@ -1,9 +1,6 @@
 -- Runs of nodes. Each begins where the one before it ends.
 use Rattle.std.proofs.Common.{◌≡◌, ℕ, zero, suc, ◌+◌, ◌-◌, ◌*◌, ◌/◌, ◌<◌, ◌≤◌, Bool, true, false, cond, inl, inr, List, [], ◌∷◌, ◌++◌, length, refl, sym, ap, subst, ◌∙◌, arith, Some, None, nat_lt, nat_le, add-one}
-use Rattle.std.proofs.lemmas.Bool.{and_from, and_parts, cases_lt, le-leb, le-ltb, leb-true, lt-ltb, ltb-true}
-use Rattle.std.proofs.lemmas.Nat.{le-div}
-use Rattle.std.proofs.Math.Nat.{div-le_of_le-mul}
-use Rattle.tp_law_network.specs.Piece.{Covers, Piece}
+use Rattle.tp_pieces.proofs.Lower.{and_from, and_parts, cases_lt, le-leb, le-ltb, leb-true, lt-ltb, ltb-true, le-div, div-le_of_le-mul, Covers, Piece}
 use Rattle.tp_pieces.specs.Dealt.{first_of}
 use Rattle.tp_pieces.proofs.Dealt.{first_up, first_most}
 use Rattle.tp_pieces.specs.Whose.{whose}

@@ -1,26 +1,13 @@
 -- The fields of a run of nodes, after an entry.
-use Rattle.std.proofs.Common.{◌≡◌, ℕ, ◌+◌, ◌*◌, ◌<◌, Bool, true, false, inl, inr, List, length, map, set, refl, sym, ap, subst, ◌∙◌, arith, Some, None, slice_get, length-set}
-use Rattle.std.specs.Prelude.{MatchBool, nat_le, ◌&&◌}
-use Rattle.std.specs.Option.{option_map}
-use Rattle.std.specs.Vec.{with_item}
-use Rattle.std.proofs.lemmas.Bool.{cases_eq, lt-ltb, le-ltb, le-leb}
-use Rattle.std.proofs.lemmas.List.{length-map, map-set}
-use Rattle.std.proofs.lemmas.Option.{slice_get-map, slice_get_within}
-use Rattle.tp_model.specs.declared.link.Token.{Token}
-use Rattle.tp_model.specs.declared.entry.Entry.{Entry}
-use Rattle.tp_model.specs.Network.{OfNode, own, has_wire, sent}
-use Rattle.tp_model.specs.Entries.{process, of_node, does}
-use Rattle.tp_model.specs.Node.{t414}
-use Rattle.tp_law_network.proofs.Partial.{slice_get-set_same, slice_get-set_other}
-use Rattle.tp_node.specs.NodeContents.{NodeContents}
+use Rattle.std.proofs.Common.{◌≡◌, ℕ, ◌+◌, ◌*◌, ◌<◌, Bool, true, false, inl, inr, List, length, map, set, refl, sym, ap, subst, ◌∙◌, arith, Some, None, slice_get, length-set, nat_le}
+use Rattle.std.specs.Prelude.{MatchBool, ◌&&◌}
+use Rattle.tp_pieces.proofs.Lower.{option_map, with_item, cases_eq, lt-ltb, le-ltb, le-leb, length-map, map-set, slice_get-map, slice_get_within, Token, Entry, OfNode, own, has_wire, sent, process, of_node, does, t414, slice_get-set_same, slice_get-set_other, NodeContents, on_lines, own_there}
 use Rattle.tp_pieces.specs.declared.nodes.NodesPart.TheInside.{Inside}
 use Rattle.tp_pieces.specs.Blank.{among}
 use Rattle.tp_pieces.specs.Held.{HeldPart, has}
 use Rattle.tp_pieces.specs.Lanes.{LanesValue, Overfills, SameLanes}
 use Rattle.tp_pieces.specs.Behind.{SameProcesses, DoesRest}
 use Rattle.tp_pieces.specs.Inside.{AreLive, IsLive, IsNodesInside, nodes_held}
-use Rattle.tp_book.specs.Sends.{on_lines}
-use Rattle.tp_book.proofs.Owns.{own_there}
 use Rattle.tp_pieces.proofs.Acts.{refuses, node_settled}
 use Rattle.tp_pieces.proofs.Among.{among_at, among_set, length_among}
 

@@ -1,10 +1,6 @@
 -- Lines that are copied one after another.
 use Rattle.std.proofs.Common.{◌≡◌, ℕ, ◌+◌, ◌<◌, ◌∷◌, ◌++◌, List, [], length, set, take, sym, ap, ◌∙◌, arith, Some, slice_get}
-use Rattle.std.proofs.lemmas.List.{take_more, set-set, set-get_or}
-use Rattle.std.proofs.lemmas.Option.{get_or_from_slice_get, slice_get_within}
-use Rattle.tp_model.specs.declared.link.Token.{Token}
-use Rattle.tp_model.specs.Network.{on_line}
-use Rattle.tp_law_network.proofs.Lines.{on_set_same, same_lines}
+use Rattle.tp_pieces.proofs.Lower.{take_more, set-set, set-get_or, get_or_from_slice_get, slice_get_within, Token, on_line, on_set_same, same_lines}
 use Rattle.tp_pieces.specs.Copies.{Copies}
 
 -- if all are copied, they are the lines

@@ -1,26 +1,8 @@
 -- One entry takes at most one off what ports can still count.
 use Rattle.std.proofs.Common.{◌≡◌, ℕ, suc, zero, ◌+◌, ◌-◌, ◌^◌, ◌<◌, ◌≤◌, Bool, true, false, cond, inl, inr, List, [], ◌∷◌, ◌++◌, length, set, drop, refl, sym, ap, subst, ◌∙◌, arith, Option, Some, None, slice_get, min, nat_lt, nat_le}
 use Rattle.std.specs.Prelude.{◌&&◌, IsTrue, MatchBool}
-use Rattle.std.specs.Option.{option_map}
-use Rattle.std.proofs.lemmas.Bool.{cases_Bool, cases_eq, cases_lt, false≢true}
-use Rattle.tp_model.specs.declared.link.Token.{Token}
-use Rattle.tp_model.specs.declared.link.Token.TheVariants.{Data, Ack, Marker}
-use Rattle.tp_model.specs.declared.wire.WireEnd.{WireEnd}
-use Rattle.tp_model.specs.declared.wire.WireEnd.TheVariants.{Link, Port as AtPort}
-use Rattle.tp_model.specs.declared.entry.Entry.{Entry}
-use Rattle.tp_model.specs.declared.entry.Entry.TheVariants.{Run, Take, HostIn, Confirm, Turn}
-use Rattle.tp_model.specs.declared.limits.TheConstants.{MAX_STEPS, MAX_HELD}
-use Rattle.tp_model.specs.NodeState.{NodeState}
-use Rattle.tp_model.specs.Network.{steps, Port, Network, Own, OfNode, OfHost, own, put, receiver, has_wire, taken, sent}
-use Rattle.tp_model.specs.Entries.{process, takes, of_node, of_port, receives, in_flight, acked, first_only, port_took, handed_in, confirmed, does, acts}
-use Rattle.tp_model.specs.Node.{t414}
-use Rattle.tp_law_network.proofs.Local.{own_host, port_step, turn_step}
-use Rattle.tp_law_network.proofs.Partial.{bind_some, map_some, cond_some, slice_get-set_same, slice_get-set_other}
-use Rattle.tp_law_network.specs.Piece.{Piece, from_piece}
-use Rattle.tp_law_network.specs.InPiece.{next_in}
-use Rattle.tp_law_network.proofs.Steps.{act_of}
+use Rattle.tp_pieces.proofs.Lower.{option_map, cases_Bool, cases_eq, cases_lt, false≢true, Token, Data, Ack, Marker, WireEnd, Link, AtPort, Entry, Run, Take, HostIn, Confirm, Turn, MAX_STEPS, MAX_HELD, NodeState, steps, Port, Network, Own, OfNode, OfHost, own, put, receiver, has_wire, taken, sent, process, takes, of_node, of_port, receives, in_flight, acked, first_only, port_took, handed_in, confirmed, does, acts, t414, own_host, port_step, turn_step, bind_some, map_some, cond_some, slice_get-set_same, slice_get-set_other, Piece, from_piece, next_in, act_of, AreCounted}
 use Rattle.tp_pieces.specs.Blocked.{IsBlocked}
-use Rattle.tp_book.specs.Counted.{AreCounted}
 use Rattle.tp_pieces.specs.Counts.{PortsCanCount, most_entries, room_of}
 
 -- each port can count `n` more

@@ -1,15 +1,6 @@
 -- The parts into which a network is dealt have its own.
-use Rattle.std.proofs.Common.{◌≡◌, ℕ, zero, suc, ◌+◌, ◌-◌, ◌*◌, ◌<◌, ◌≤◌, Bool, true, false, cond, inl, inr, List, [], ◌∷◌, ◌++◌, length, map, take, drop, replicate, slice_index_or, refl, sym, ap, subst, ◌∙◌, arith, Option, Some, None, slice_get, nat_lt, nat_le, length-append, length-drop}
-use Rattle.std.specs.Prelude.{All}
-use Rattle.std.specs.Option.{option_map}
-use Rattle.std.proofs.lemmas.Bool.{and_parts, cases_eq, cases_lt, le-ltb, leb-true, lt-ltb, ltb-true}
-use Rattle.std.proofs.lemmas.List.{drop-drop, get_or-map, get_or_append_left, get_or_at, get_or_default, length-map, length-replicate, length-take-le, map-append, take-map, drop-map}
-use Rattle.std.proofs.lemmas.Option.{slice_get_past}
-use Rattle.tp_model.specs.NodeState.{NodeState}
-use Rattle.tp_model.specs.Network.{Network, OfNode, OfHost, on_line, own}
-use Rattle.tp_law_network.proofs.Local.{own-host, own-node}
-use Rattle.tp_law_network.specs.Piece.{Agrees}
-use Rattle.tp_node.specs.NodeContents.{NodeContents}
+use Rattle.std.proofs.Common.{◌≡◌, ℕ, zero, suc, ◌+◌, ◌-◌, ◌*◌, ◌<◌, ◌≤◌, Bool, true, false, cond, inl, inr, List, [], ◌∷◌, ◌++◌, length, map, take, drop, replicate, slice_index_or, refl, sym, ap, subst, ◌∙◌, arith, Option, Some, None, slice_get, nat_lt, nat_le, length-append, length-drop, All}
+use Rattle.tp_pieces.proofs.Lower.{option_map, and_parts, cases_eq, cases_lt, le-ltb, leb-true, lt-ltb, ltb-true, drop-drop, get_or-map, get_or_append_left, get_or_at, get_or_default, length-map, length-replicate, length-take-le, map-append, take-map, drop-map, slice_get_past, NodeState, Network, OfNode, OfHost, on_line, own, own-host, own-node, Agrees, NodeContents}
 use Rattle.tp_pieces.specs.Dealt.{first_of}
 use Rattle.tp_pieces.specs.Whole.{AreWhole}
 use Rattle.tp_pieces.specs.declared.apart.Apart.{Apart}

@@ -1,9 +1,6 @@
 -- Nodes that are dealt in runs: each run begins where the one before it ends, so each number is in a piece.
 use Rattle.std.proofs.Common.{◌≡◌, inl, inr, ℕ, zero, suc, ◌+◌, ◌*◌, ◌/◌, ◌<◌, ◌≤◌, cond, ap, subst, ◌∙◌, arith, le_trans, nat_le}
-use Rattle.std.proofs.lemmas.Bool.{and_from, cases_lt, le-leb, le-ltb, lt-ltb}
-use Rattle.std.proofs.lemmas.Nat.{le-div}
-use Rattle.std.proofs.Math.Nat.{div-mul-le_self, div-le_of_le-mul, mul-le-mul_right}
-use Rattle.tp_law_network.specs.Piece.{Covers}
+use Rattle.tp_pieces.proofs.Lower.{and_from, cases_lt, le-leb, le-ltb, lt-ltb, le-div, div-mul-le_self, div-le_of_le-mul, mul-le-mul_right, Covers}
 use Rattle.tp_pieces.specs.Dealt.{first_of, nodes_of, dealt}
 
 -- a later run begins no earlier

@@ -1,8 +1,6 @@
 -- A run that ended before all its steps.
 use Rattle.std.proofs.Common.{◌≡◌, ℕ, zero, suc, ◌<◌, List, [], ◌++◌, ap, ◌∙◌, arith, Some, None, Option}
-use Rattle.tp_model.specs.declared.link.Token.{Token}
-use Rattle.tp_model.specs.Network.{◌>>=◌, Machine, steps}
-use Rattle.tp_law_network.proofs.Partial.{bind_some}
+use Rattle.tp_pieces.proofs.Lower.{Token, ◌>>=◌, Machine, steps, bind_some}
 
 -- the steps after the first one
 abbrev goes_on : {Node : Type 0} → Machine Node → ℕ → Node × List (ℕ × Token) → Option (Node × List (ℕ × Token))

@@ -1,8 +1,7 @@
 -- What finding the first gives, over the numbers from one on.
-use Rattle.std.proofs.Common.{◌≡◌, inl, inr, ℕ, zero, suc, ◌+◌, ◌<◌, ◌≤◌, Bool, true, false, List, [], ◌∷◌, length, refl, sym, subst, arith, Option, Some, None, IsTrue, ◌↔◌, MatchOption, All, Contains, slice_get, slice_index_or}
-use Rattle.std.specs.List.{AllZip, range_with_len}
-use Rattle.std.proofs.lemmas.Bool.{cases_eq, cases_lt, false≢true}
-use Rattle.rayon.specs.Lists.{filter_by_mask}
+use Rattle.std.proofs.Common.{◌≡◌, inl, inr, ℕ, zero, suc, ◌+◌, ◌<◌, ◌≤◌, Bool, true, false, List, [], ◌∷◌, length, refl, sym, subst, arith, Option, Some, None, ◌↔◌, MatchOption, All, Contains, slice_get, slice_index_or}
+use Rattle.std.specs.Prelude.{IsTrue}
+use Rattle.tp_pieces.proofs.Lower.{AllZip, range_with_len, cases_eq, cases_lt, false≢true, filter_by_mask}
 use denote.Bor.{Bor}
 
 -- the answer tells whether the number is one of them

@@ -1,15 +1,7 @@
 -- Tokens of a turn, taken off a part's lines one after the other.
 use Rattle.std.proofs.Common.{◌≡◌, ℕ, ◌+◌, ◌<◌, Bool, true, false, cond, inl, inr, List, [], ◌∷◌, ◌++◌, length, map, set, take, drop, get_or, refl, sym, ap, subst, ◌∙◌, Option, Some, None}
 use Rattle.std.specs.Prelude.{MatchBool}
-use Rattle.std.proofs.lemmas.Bool.{cases_Bool}
-use Rattle.std.proofs.lemmas.List.{map_more, map-append, take-append-drop}
-use Rattle.tp_model.specs.declared.link.Token.{Token}
-use Rattle.tp_model.specs.declared.wire.WireEnd.{WireEnd}
-use Rattle.tp_model.specs.NodeState.{NodeState}
-use Rattle.tp_model.specs.Network.{◌>>=◌, Network, on_line, is_first, taken}
-use Rattle.tp_model.specs.Turn.{by_line, incoming}
-use Rattle.tp_law_network.proofs.Partial.{bind_some}
-use Rattle.tp_law_network.specs.Piece.{Piece, from_piece, sends}
+use Rattle.tp_pieces.proofs.Lower.{cases_Bool, map_more, map-append, take-append-drop, Token, WireEnd, NodeState, ◌>>=◌, Network, on_line, is_first, taken, by_line, incoming, bind_some, Piece, from_piece, sends}
 use Rattle.tp_pieces.specs.Held.{HeldPart, has}
 use Rattle.tp_pieces.specs.Behind.{without, SameProcesses, TakesTokens}
 use Rattle.tp_pieces.proofs.Halves.{same_all, same_has}

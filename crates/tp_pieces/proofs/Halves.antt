@@ -1,16 +1,7 @@
 -- An entry in its two halves: its tokens are taken off, and what is left of it is done.
 use Rattle.std.proofs.Common.{◌≡◌, ℕ, Bool, true, false, cond, inl, List, [], ◌∷◌, length, refl, sym, ap, subst, ◌∙◌, Option, Some, None}
 use Rattle.std.specs.Prelude.{MatchBool}
-use Rattle.tp_model.specs.declared.link.Token.{Token}
-use Rattle.tp_model.specs.declared.entry.Entry.{Entry}
-use Rattle.tp_model.specs.declared.entry.Entry.TheVariants.{Run, Take, HostIn, Confirm, Turn}
-use Rattle.tp_model.specs.NodeState.{NodeState}
-use Rattle.tp_model.specs.Network.{◌>>=◌, Network, own, taken}
-use Rattle.tp_model.specs.Entries.{process, takes, acts}
-use Rattle.tp_model.specs.Node.{t414}
-use Rattle.tp_law_network.proofs.Local.{process_same}
-use Rattle.tp_law_network.specs.Piece.{Piece, from_piece, sends}
-use Rattle.tp_law_network.specs.InPiece.{next_in}
+use Rattle.tp_pieces.proofs.Lower.{Token, Entry, Run, Take, HostIn, Confirm, Turn, NodeState, ◌>>=◌, Network, own, taken, process, takes, acts, t414, process_same, Piece, from_piece, sends, next_in}
 use Rattle.tp_pieces.specs.Blocked.{IsBlocked}
 use Rattle.tp_pieces.specs.Whose.{whose}
 use Rattle.tp_pieces.specs.Held.{HeldPart, has}

@@ -1,17 +1,6 @@
 -- A network, joined from its parts one after another, the last one first.
-use Rattle.std.proofs.Common.{◌≡◌, ℕ, zero, suc, ◌+◌, ◌-◌, ◌*◌, ◌/◌, ◌<◌, ◌≤◌, Bool, true, false, cond, inl, inr, List, [], ◌∷◌, ◌++◌, length, map, take, drop, replicate, get_or, slice_index_or, refl, sym, ap, subst, ◌∙◌, arith, Option, Some, None, slice_get, nat_lt, nat_le, length-append, length-drop, length-take-le}
-use Rattle.std.specs.Option.{option_map}
-use Rattle.std.proofs.lemmas.Bool.{and_from, cases_lt, le-leb, le-ltb, lt-ltb}
-use Rattle.std.proofs.lemmas.List.{drop-drop, drop_all, get_or-replicate, get_or-take, get_or_at, get_or_past, length-map, length-replicate, length-take, map-append, take-append-drop, take_at, take-take}
-use Rattle.std.proofs.lemmas.Option.{slice_get_past}
-use Rattle.tp_model.specs.declared.link.Token.{Token}
-use Rattle.tp_model.specs.NodeState.{NodeState}
-use Rattle.tp_model.specs.Network.{Network, Own, OfNode, OfHost, Port, on_line, own}
-use Rattle.tp_model.specs.Sound.{owner}
-use Rattle.tp_law_network.proofs.Lines.{same_lines}
-use Rattle.tp_law_network.proofs.Local.{own-host, own-node}
-use Rattle.tp_law_network.specs.Piece.{Agrees, sends}
-use Rattle.tp_node.specs.NodeContents.{NodeContents}
+use Rattle.std.proofs.Common.{◌≡◌, ℕ, zero, suc, ◌+◌, ◌-◌, ◌*◌, ◌/◌, ◌<◌, ◌≤◌, Bool, true, false, cond, inl, inr, List, [], ◌∷◌, ◌++◌, length, map, take, drop, replicate, get_or, slice_index_or, refl, sym, ap, subst, ◌∙◌, arith, Option, Some, None, slice_get, nat_lt, nat_le, length-append, length-drop}
+use Rattle.tp_pieces.proofs.Lower.{length-take-le, option_map, and_from, cases_lt, le-leb, le-ltb, lt-ltb, drop-drop, drop_all, get_or-replicate, get_or-take, get_or_at, get_or_past, length-map, length-replicate, length-take, map-append, take-append-drop, take_at, take-take, slice_get_past, Token, NodeState, Network, Own, OfNode, OfHost, Port, on_line, own, owner, same_lines, own-host, own-node, Agrees, sends, NodeContents}
 use Rattle.tp_pieces.specs.declared.apart.Apart.{Apart}
 use Rattle.tp_pieces.specs.declared.host.HostPart.TheInside.{Inside as HostInside}
 use Rattle.tp_pieces.specs.declared.nodes.NodesPart.TheInside.{Inside as NodesInside}

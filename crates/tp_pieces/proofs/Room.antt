@@ -1,12 +1,7 @@
 -- A part's lines, once tokens were taken off or sent.
 use Rattle.std.proofs.Common.{◌≡◌, ℕ, ◌+◌, ◌<◌, ◌≤◌, Bool, true, false, cond, inl, inr, List, [], ◌∷◌, ◌++◌, length, set, take, drop, get_or, refl, sym, ap, subst, ◌∙◌, arith, Some, None, length-append}
 use Rattle.std.specs.Prelude.{MatchBool}
-use Rattle.std.proofs.lemmas.Bool.{cases_eq, cases_lt}
-use Rattle.std.proofs.lemmas.List.{get_or_past, set_past, take_more, take-append-drop, drop_more, map_push, map-append}
-use Rattle.tp_model.specs.declared.link.Token.{Token}
-use Rattle.tp_model.specs.Network.{on_line, is_first, taken, pushed, sent}
-use Rattle.tp_law_network.proofs.Lines.{cons_taken, on_set_same, on_set_other, for_line-here, on_sent_open, sent_behind, sent-append}
-use Rattle.tp_book.specs.Room.{from_line}
+use Rattle.tp_pieces.proofs.Lower.{cases_eq, cases_lt, get_or_past, set_past, take_more, take-append-drop, drop_more, map_push, map-append, Token, on_line, is_first, taken, pushed, sent, cons_taken, on_set_same, on_set_other, for_line-here, on_sent_open, sent_behind, sent-append, from_line}
 use Rattle.tp_pieces.specs.Lanes.{AreShort, Overfills}
 
 -- ## What is taken

@@ -1,8 +1,6 @@
 -- Elements of a stretch of a list.
 use Rattle.std.proofs.Common.{◌≡◌, ℕ, zero, suc, ◌+◌, ◌-◌, ◌<◌, ◌≤◌, List, [], ◌∷◌, ◌++◌, length, take, drop, refl, sym, ap, subst, ◌∙◌, arith, inl, inr, Option, Some, None, slice_get}
-use Rattle.std.proofs.lemmas.Bool.{cases_lt}
-use Rattle.std.proofs.lemmas.List.{length-take}
-use Rattle.std.proofs.lemmas.Option.{slice_get_within}
+use Rattle.tp_pieces.proofs.Lower.{cases_lt, length-take, slice_get_within}
 
 -- an element at a place among the first ones
 pub get_take : {A : Type 0} (count : ℕ) (xs : List A) (i : ℕ) → i < count → slice_get (take count xs) i ≡ slice_get xs i

@@ -1,12 +1,6 @@
 -- What a node does in a turn: it takes tokens one after the other, and then makes steps.
 use Rattle.std.proofs.Common.{◌≡◌, ℕ, ◌+◌, ◌<◌, ◌≤◌, List, [], ◌∷◌, ◌++◌, length, map, take, drop, get_or, refl, sym, ap, subst, ◌∙◌, arith, Option, Some, None, slice_get, append-nil}
-use Rattle.std.proofs.lemmas.List.{append_assoc, take_more, drop_more, take-append-drop}
-use Rattle.tp_model.specs.declared.link.Token.{Token}
-use Rattle.tp_model.specs.NodeState.{NodeState}
-use Rattle.tp_model.specs.Network.{◌>>=◌, steps}
-use Rattle.tp_model.specs.Turn.{took_all, turned}
-use Rattle.tp_model.specs.Node.{t414, took, on_link}
-use Rattle.tp_law_network.proofs.Partial.{bind_some}
+use Rattle.tp_pieces.proofs.Lower.{append_assoc, take_more, drop_more, take-append-drop, Token, NodeState, ◌>>=◌, steps, took_all, turned, t414, took, on_link, bind_some}
 
 -- a node with what it sent
 abbrev After : Type 0

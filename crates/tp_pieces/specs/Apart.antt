@@ -1,11 +1,6 @@
 -- A network taken apart.
 use Rattle.std.specs.Prelude.{◌≡◌, ◌≤◌, ℕ, ◌+◌, ◌*◌, length, map}
-use Rattle.tp_model.specs.declared.limits.TheConstants.{MAX_NODES, MAX_PORTS}
-use Rattle.tp_model.specs.NodeState.{NodeState}
-use Rattle.tp_model.specs.Network.{Network, on_line}
-use Rattle.tp_model.specs.Markers.{markers}
-use Rattle.tp_model.specs.Node.{t414_ends}
-use Rattle.tp_model.specs.Sound.{Sound}
+use Rattle.tp_pieces.specs.Lower.{MAX_NODES, MAX_PORTS, NodeState, Network, on_line, markers, t414_ends, Sound}
 use Rattle.tp_pieces.specs.declared.apart.Apart.{Apart}
 use Rattle.tp_pieces.specs.Inside.{AreLive}
 

@@ -1,14 +1,6 @@
 -- What a call that does an entry, or half of one, leaves.
 use Rattle.std.specs.Prelude.{◌≡◌, ◌⊎◌, ℕ, Bool, if◌then◌else◌, List, MatchBool, length, Option, Some, None}
-use Rattle.tp_model.specs.declared.link.Token.{Token}
-use Rattle.tp_model.specs.declared.entry.Entry.{Entry}
-use Rattle.tp_model.specs.NodeState.{NodeState}
-use Rattle.tp_model.specs.Network.{◌>>=◌, Network, taken}
-use Rattle.tp_model.specs.Entries.{process, takes, acts}
-use Rattle.tp_model.specs.Node.{t414}
-use Rattle.tp_law_network.specs.Piece.{Piece, from_piece}
-use Rattle.tp_law_network.specs.InPiece.{next_in}
-use Rattle.tp_law_network.specs.Stops.{IsOverfull}
+use Rattle.tp_pieces.specs.Lower.{Token, Entry, NodeState, ◌>>=◌, Network, taken, process, takes, acts, t414, Piece, from_piece, next_in, IsOverfull}
 use Rattle.tp_pieces.specs.Held.{HeldPart, has}
 
 -- what is left to do of an entry in a piece, once the tokens that it takes are off the piece's lines

@@ -1,8 +1,6 @@
 -- What a part has in place of nodes and ports that aren't its own, which it never reads.
 use Rattle.std.specs.Prelude.{ℕ, List, [], ◌++◌, replicate, false, None}
-use Rattle.tp_model.specs.declared.processor.State.TheVariants.{Idle}
-use Rattle.tp_model.specs.NodeState.{NodeState}
-use Rattle.tp_model.specs.Network.{Port}
+use Rattle.tp_pieces.specs.Lower.{Idle, NodeState, Port}
 
 -- a node without memory and links
 abbrev pub blank_node : NodeState

@@ -1,7 +1,6 @@
 -- Lines that are copied.
 use Rattle.std.specs.Prelude.{◌≡◌, ◌≤◌, ◌<◌, ℕ, List, length}
-use Rattle.tp_model.specs.declared.link.Token.{Token}
-use Rattle.tp_model.specs.Network.{on_line}
+use Rattle.tp_pieces.specs.Lower.{Token, on_line}
 
 -- The lines from `first` on that are before `past` are now those of `from`; the others are as they were.
 pub record Copies (first past : ℕ) (from was now : List (List Token)) : Type 0 where

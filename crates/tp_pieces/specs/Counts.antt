@@ -1,7 +1,6 @@
 -- How far ports count.
 use Rattle.std.specs.Prelude.{◌≡◌, ◌<◌, ℕ, ◌+◌, ◌-◌, ◌^◌, min, List, [], ◌∷◌, Some, slice_get}
-use Rattle.tp_model.specs.NodeState.{NodeState}
-use Rattle.tp_model.specs.Network.{Network, Port}
+use Rattle.tp_pieces.specs.Lower.{NodeState, Network, Port}
 
 -- each port can count one more byte
 abbrev pub PortsCanCount : Network NodeState → Type 0

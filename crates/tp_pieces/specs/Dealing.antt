@@ -1,9 +1,6 @@
 -- The parts into which a network is dealt.
 use Rattle.std.specs.Prelude.{◌≡◌, ◌<◌, ℕ, ◌+◌, ◌-◌, nat_lt, if◌then◌else◌, List, [], ◌∷◌, length, map, replicate, take, drop, slice_index_or, None, Some}
-use Rattle.tp_model.specs.NodeState.{NodeState}
-use Rattle.tp_model.specs.Network.{Network}
-use Rattle.tp_law_network.specs.Piece.{Agrees, Piece}
-use Rattle.tp_node.specs.NodeContents.{NodeContents}
+use Rattle.tp_pieces.specs.Lower.{NodeState, Network, Agrees, Piece, NodeContents}
 use Rattle.tp_pieces.specs.declared.net_part.NetPart.{NetPart}
 use Rattle.tp_pieces.specs.declared.net_part.NetPart.TheVariants.{Nodes, Host}
 use Rattle.tp_pieces.specs.Blank.{among, blank_port}

@@ -1,8 +1,6 @@
 -- A part of a network, as contracts see it.
 use Rattle.std.specs.Prelude.{ℕ, Option}
-use Rattle.tp_model.specs.NodeState.{NodeState}
-use Rattle.tp_model.specs.Network.{Network}
-use Rattle.tp_law_network.specs.Piece.{Piece}
+use Rattle.tp_pieces.specs.Lower.{NodeState, Network, Piece}
 use Rattle.tp_pieces.specs.Whose.{whose}
 
 -- The first process that it has, and the first after it that it hasn't, if there is one; and a network with its processes and the lines as

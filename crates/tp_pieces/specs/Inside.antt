@@ -1,10 +1,6 @@
 -- The fields of parts: what they mean, and what they keep.
 use Rattle.std.specs.Prelude.{◌≡◌, ◌≤◌, ℕ, ◌+◌, ◌*◌, List, length, map, replicate, None, Some, slice_get}
-use Rattle.tp_model.specs.declared.limits.TheConstants.{MAX_NODES, MAX_PORTS}
-use Rattle.tp_model.specs.NodeState.{NodeState}
-use Rattle.tp_model.specs.Network.{Network}
-use Rattle.tp_law_machine.specs.NodeOfBytes.{IsNodeOfBytes}
-use Rattle.tp_node.specs.NodeContents.{NodeContents}
+use Rattle.tp_pieces.specs.Lower.{MAX_NODES, MAX_PORTS, NodeState, Network, IsNodeOfBytes, NodeContents}
 use Rattle.tp_pieces.specs.Blank.{among, blank_port}
 use Rattle.tp_pieces.specs.Held.{HeldPart}
 use Rattle.tp_pieces.specs.Lanes.{LanesValue}

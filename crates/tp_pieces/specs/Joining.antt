@@ -1,8 +1,6 @@
 -- A network that is joined from its parts, the last of them first.
 use Rattle.std.specs.Prelude.{◌≡◌, ◌<◌, ◌≤◌, ℕ, ◌*◌, List, [], length, map, drop, Some}
-use Rattle.tp_model.specs.NodeState.{NodeState}
-use Rattle.tp_model.specs.Network.{Network, on_line}
-use Rattle.tp_law_network.specs.Piece.{Agrees}
+use Rattle.tp_pieces.specs.Lower.{NodeState, Network, on_line, Agrees}
 use Rattle.tp_pieces.specs.declared.apart.Apart.{Apart}
 use Rattle.tp_pieces.specs.declared.net_part.NetPart.{NetPart}
 use Rattle.tp_pieces.specs.Dealing.{AgreeAll, pieces_of}

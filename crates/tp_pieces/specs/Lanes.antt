@@ -1,8 +1,6 @@
 -- Wires, and the lines as one part has them.
 use Rattle.std.specs.Prelude.{◌≡◌, ◌<◌, ◌≤◌, ℕ, Bool, List, length, Option}
-use Rattle.tp_model.specs.declared.link.Token.{Token}
-use Rattle.tp_model.specs.declared.wire.WireEnd.{WireEnd}
-use Rattle.tp_model.specs.Network.{on_line, sent}
+use Rattle.tp_pieces.specs.Lower.{Token, WireEnd, on_line, sent}
 
 -- for each line the end that receives it, and its tokens
 pub record LanesValue : Type 0 where

@@ -1,3 +1,4 @@
+pub mod Lower
 pub mod Apart
 pub mod Behind
 pub mod Blank

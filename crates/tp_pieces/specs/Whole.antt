@@ -1,15 +1,6 @@
 -- Parts that are a whole network, and what is answered of it.
 use Rattle.std.specs.Prelude.{◌≡◌, ◌<◌, ℕ, List, length, Option, Some, None}
-use Rattle.tp_model.specs.declared.entry.Entry.{Entry}
-use Rattle.tp_model.specs.NodeState.{NodeState}
-use Rattle.tp_model.specs.Network.{Network, on_line}
-use Rattle.tp_model.specs.Entries.{next}
-use Rattle.tp_model.specs.Markers.{markers}
-use Rattle.tp_model.specs.Node.{t414, t414_ends}
-use Rattle.tp_model.specs.Order.{after}
-use Rattle.tp_model.specs.Sound.{Sound}
-use Rattle.tp_law_network.specs.Piece.{Agrees, Covers, Piece}
-use Rattle.tp_law_network.specs.Reach.{reach}
+use Rattle.tp_pieces.specs.Lower.{Entry, NodeState, Network, on_line, next, markers, t414, t414_ends, after, Sound, Agrees, Covers, Piece, reach}
 
 -- These parts are the whole of s, which is sound and has no Markers. Each process is in at least one of them, and each part has its own as
 -- s has it.

@@ -1,10 +1,7 @@
 //! What is tested before an entry is done.
 
 ghost use Rattle.std.specs.Prelude.{◌≡◌, ◌<◌, ◌≤◌, ◌+◌, ◌&&◌, IsTrue, ℕ, List, MatchBool, MatchOption, Some, false, nat_lt, nat_le, slice_get};
-ghost use Rattle.tp_model.specs.declared.link.Token.{Token};
-ghost use Rattle.tp_model.specs.declared.wire.WireEnd.TheVariants.{Link};
-ghost use Rattle.tp_model.specs.declared.limits.TheConstants.{MAX_STEPS};
-ghost use Rattle.tp_model.specs.Network.{is_first};
+ghost use Rattle.tp_pieces.specs.Lower.{Token, Link, MAX_STEPS, is_first};
 ghost use Rattle.tp_pieces.specs.Whose.{whose};
 
 use tp_model::limits::MAX_STEPS;

@@ -1,9 +1,7 @@
 //! A network that is joined from its parts.
 
 ghost use Rattle.std.specs.Prelude.{◌≡◌, IfOk, length};
-ghost use Rattle.tp_model.specs.NodeState.{NodeState};
-ghost use Rattle.tp_model.specs.Network.{Network};
-ghost use Rattle.tp_law_network.specs.Piece.{Agrees};
+ghost use Rattle.tp_pieces.specs.Lower.{NodeState, Network, Agrees};
 ghost use Rattle.tp_pieces.specs.Apart.{network_apart};
 ghost use Rattle.tp_pieces.specs.Dealing.{AgreeAll, CanJoin};
 ghost use Rattle.tp_pieces.specs.Held.{has};

@@ -1,9 +1,7 @@
 //! Wires, and the lines as one part has them.
 
 ghost use Rattle.std.specs.Prelude.{◌≡◌, ◌<◌, ◌≤◌, [], ◌∷◌, IfOk, MatchBool, Some, None, length};
-ghost use Rattle.tp_model.specs.Network.{has_wire, pushed, receiver, sent, taken};
-ghost use Rattle.tp_book.specs.Room.{from_line};
-ghost use Rattle.tp_book.specs.Sends.{sends_on};
+ghost use Rattle.tp_pieces.specs.Lower.{has_wire, pushed, receiver, sent, taken, from_line, sends_on};
 ghost use Rattle.tp_pieces.specs.Lanes.{Overfills, SameLanes};
 
 use crate::copies::copy_of;

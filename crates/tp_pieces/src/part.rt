@@ -1,11 +1,7 @@
 //! A part of a network.
 
 ghost use Rattle.std.specs.Prelude.{◌≡◌, ◌<◌, ◌≤◌, ◌+◌, ℕ, IsTrue, MatchBool, MatchOption, Some, length};
-ghost use Rattle.tp_model.specs.NodeState.{NodeState};
-ghost use Rattle.tp_model.specs.Network.{Network};
-ghost use Rattle.tp_model.specs.Node.{t414};
-ghost use Rattle.tp_law_network.specs.Piece.{Piece};
-ghost use Rattle.tp_law_network.specs.InPiece.{next_in};
+ghost use Rattle.tp_pieces.specs.Lower.{NodeState, Network, t414, Piece, next_in};
 ghost use Rattle.tp_pieces.specs.Blocked.{IsBlocked};
 ghost use Rattle.tp_pieces.specs.FirstNode.{HasNoNode, IsFirstNode};
 

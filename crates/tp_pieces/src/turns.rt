@@ -1,13 +1,7 @@
 //! A turn: the tokens that its node takes, and then its steps.
 
 ghost use Rattle.std.specs.Prelude.{◌≡◌, ◌<◌, ◌≤◌, ◌+◌, ◌^◌, ◌++◌, ◌&&◌, [], ◌∷◌, IfSome, List, MatchBool, MatchOption, Option, Some, None, length, map, nat_lt, nat_le, true, false};
-ghost use Rattle.tp_model.specs.declared.entry.Entry.TheVariants.{Turn};
-ghost use Rattle.tp_model.specs.declared.limits.TheConstants.{MAX_NODES, MAX_STEPS};
-ghost use Rattle.tp_model.specs.declared.link.Token.{Token};
-ghost use Rattle.tp_model.specs.Network.{has_wire, receiver, sent};
-ghost use Rattle.tp_model.specs.Node.{on_link, t414, took};
-ghost use Rattle.tp_model.specs.Turn.{by_line, by_link, comes_in, incoming, is_link, received, took_all, turned};
-ghost use Rattle.tp_book.specs.Room.{from_line};
+ghost use Rattle.tp_pieces.specs.Lower.{Turn, MAX_NODES, MAX_STEPS, Token, has_wire, receiver, sent, on_link, t414, took, by_line, by_link, comes_in, incoming, is_link, received, took_all, turned, from_line};
 ghost use Rattle.tp_pieces.specs.Behind.{DoesRest, TakesTokens};
 ghost use Rattle.tp_pieces.specs.Inside.{IsLive};
 ghost use Rattle.tp_pieces.specs.Lanes.{Overfills, SameLanes};

@@ -1,11 +1,6 @@
 -- The statuses of commands.
 use Rattle.std.proofs.Common.{◌≡◌, ◌≤◌, ℕ, true, List, arith, codes}
-use Rattle.std.specs.declared.alloc.Global.{Global}
-use Rattle.std.specs.declared.string.String.{String}
-use Rattle.tp_words.specs.Commands.{WasCommandTyped}
-use Rattle.tp_words.specs.Typed.{has_word}
-use Rattle.tp_words.specs.declared.command.Command.{Command}
-use Rattle.tp_words.specs.declared.command.Command.TheVariants.{Stream, Stop, Backup, Other}
+use Rattle.tp_program.proofs.Lower.{Global, String, WasCommandTyped, has_word, Command, Stream, Stop, Backup, Other}
 use Rattle.tp_program.specs.Answers.{most_status}
 
 -- a status is at most 3

@@ -1,8 +1,6 @@
 -- Streams whose ends aren't opened, or whose stop file isn't taken.
 use Rattle.std.proofs.Common.{Err, refl}
-use Rattle.tp_model.specs.NodeState.{NodeState}
-use Rattle.tp_model.specs.Network.{Network}
-use Rattle.tp_model.specs.DiskHistory.{State}
+use Rattle.tp_program.proofs.Lower.{NodeState, Network, State}
 use Rattle.tp_program.specs.Streaming.{IsOfEnds, IsUnopened, FindsNothingNew, StreamedOn}
 use Rattle.tp_program.specs.declared.streaming.FilesFault.{FilesFault}
 use Rattle.tp_program.specs.declared.streaming.FilesFault.TheVariants.{End, Stop, Stream}

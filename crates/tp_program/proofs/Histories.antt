@@ -1,9 +1,7 @@
--- A history of nothing, if a caller knows none.
-use Rattle.std.specs.Prelude.{[], None}
-use Rattle.tp_model.specs.NodeState.{NodeState}
-use Rattle.tp_model.specs.Network.{Network}
-use Rattle.tp_model.specs.WriteOrder.{Resting}
-use Rattle.tp_run.specs.Ran.{History}
+-- The history that a caller gives who knows of nothing before.
+use Rattle.std.proofs.Common.{[]}
+use Rattle.std.specs.Prelude.{None}
+use Rattle.tp_program.proofs.Lower.{NodeState, Network, Resting, History}
 
 no_network : Network NodeState
 no_network = record { wires = []; nodes = []; ports = []; lines = [] }

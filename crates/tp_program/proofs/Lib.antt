@@ -1,5 +1,9 @@
+pub mod Lower
+pub mod NoMaps
 mod Commands
 pub mod Ends
 pub mod Histories
+mod ImagesRead
+mod Requests
 mod Statuses
 mod Stayed

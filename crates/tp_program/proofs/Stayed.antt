@@ -1,15 +1,6 @@
 -- The area to which a device opens has its gate open, and the generation that opening answers.
 use Rattle.std.proofs.Common.{◌≡◌, ◌+◌, ◌∙◌, ℕ, Bool, true, List, Ok, ap, sym, arith}
-use Rattle.tp_area.specs.Places.{place_at}
-use Rattle.tp_area.proofs.OpenedPlace.{opening_place}
-use Rattle.tp_area.proofs.OtherArea.{own_open}
-use Rattle.tp_area.proofs.Placed.{is_placed, place_lies}
-use Rattle.tp_recover.specs.Copies.{HasStayed, area_kept, kept_start}
-use Rattle.tp_area.specs.declared.front.AreaFront.{AreaFront}
-use Rattle.tp_model.specs.Bytes.{u64_at}
-use Rattle.tp_model.specs.Node.{t414, t414_ends}
-use Rattle.tp_model.specs.Opening.{Opened, verdict}
-use Rattle.tp_recover.proofs.Areas.{generation_of-content}
+use Rattle.tp_program.proofs.Lower.{place_at, opening_place, own_open, is_placed, place_lies, HasStayed, area_kept, kept_start, AreaFront, u64_at, t414, t414_ends, Opened, verdict, generation_of-content}
 
 pub opened_stays : (bytes : List ℕ) (o : Opened) → verdict bytes ≡ Ok o → HasStayed (area_kept o) bytes
 unfolding verdict

@@ -1,18 +1,15 @@
 -- What `compact` does with a device's file.
 use Rattle.std.specs.Prelude.{◌≡◌, ◌⊎◌, ℕ, List, Option, IsErr}
-use Rattle.tp_model.specs.DiskHistory.{State}
-use Rattle.tp_model.specs.Opening.{verdict}
-use Rattle.tp_recover.specs.Reading.{LeavesNothingNew}
-use Rattle.tp_run.specs.Ran.{History}
+use Rattle.tp_program.specs.Lower.{State, verdict, LeavesNothingNew, History}
 use Rattle.tp_program.specs.Compacting.{CompactedAs}
 use Rattle.tp_program.specs.Devices.{DeviceCall, UsedOne, WasRefused}
 
--- What `compact_on` promises, of a device from the state as it was opened to the one as it was given back.
+-- What `compact_on` promises of a device, between the state in which it was opened and the one in which it was given back.
 pub record CompactedBetween (keeps : Type 0) (history : History) (was now : Option (List ℕ)) (status : ℕ) (opened closed : State) : Type 0 where
   pub done : CompactedAs keeps history opened closed was now status
   pub unopened : keeps → IsErr (verdict opened.now.bytes) → (status ≡ 1) × LeavesNothingNew opened closed × (now ≡ was)
 
--- It was refused; or only the device at this path was opened, compacted, and given back.
+-- Either the command was refused, or only the device at this path was opened, compacted, and given back.
 abbrev pub CompactedFile : (keeps : Type 0) → History → (path : List ℕ) → (old new : List DeviceCall) → (was now : Option (List ℕ)) → ℕ → Type 0
 CompactedFile keeps history path old new was now status =
     WasRefused old new was now status ⊎ UsedOne path old new (CompactedBetween keeps history was now status)

@@ -1,28 +1,20 @@
 -- What `compact` does and prints.
 use Rattle.std.specs.Prelude.{◌≡◌, ℕ, List, [], ◌∷◌, ◌++◌, codes, Option, Result, Ok, IfOk, IsErr}
-use Rattle.std.specs.Fmt.{decimal}
-use Rattle.std.specs.Io.KnownBytes.{Appends}
-use Rattle.tp_flush.specs.Known.{Began}
-use Rattle.tp_model.specs.DiskHistory.{State}
-use Rattle.tp_model.specs.Opening.{verdict}
-use Rattle.tp_recover.specs.Reading.{LeavesNothingNew}
-use Rattle.tp_run.specs.Compacted.{CompactAnswer, Compacted, GrewByOne, StaysUnopened}
-use Rattle.tp_run.specs.Ran.{History}
-use Rattle.tp_run.specs.declared.compacting.Compaction.{Compaction}
-use Rattle.tp_run.specs.declared.compacting.CompactFault.{CompactFault}
+use Rattle.tp_program.specs.Lower.{decimal, Appends, Began, State, verdict, LeavesNothingNew, CompactAnswer, Compacted, GrewByOne, StaysUnopened, History, Compaction, CompactFault}
 
--- the generation of the cut, the number of the next entry, and how many entries the journal takes
+-- the line that is printed: the generation of the cut, the number of the next entry, and how many entries the journal takes
 abbrev pub compaction_line : Compaction → List ℕ
 compaction_line done =
     codes "generation " ++ (decimal done.generation ++ (codes " next " ++ (decimal done.next ++ (codes " room " ++ (decimal done.room ++ 10 ∷ [])))))
 
--- The device was compacted, and exactly that is printed of it.
+-- The device was compacted, and exactly the line about that was printed.
 pub record PrintsDone (done : Result Compaction CompactFault) (was now : Option (List ℕ)) : Type 0 where
   pub given : Compaction
   pub is : done ≡ Ok given
   pub printed : Appends was now (compaction_line given)
 
--- How a device was compacted that ended with this status, for a reason that the device gives, and what was left of it and on standard output.
+-- A device was compacted, or wasn't for a reason that it gives, and the command ended with this status. This is what it left on the device and on
+-- standard output.
 pub record CompactedAs (keeps : Type 0) (history : History) (old new : State) (was now : Option (List ℕ)) (status : ℕ) : Type 0 where
   pub done : Result Compaction CompactFault
   pub kept : keeps → Began history.formatted history.before old.now.bytes → Compacted history.formatted done old new

@@ -1,35 +1,56 @@
--- Devices that were asked for, made, opened to be written, and given back.
+-- Devices that were asked for, made, opened to be written, and given back; and what else was done with files.
 use Rattle.std.specs.Prelude.{◌≡◌, ◌⊎◌, ◌≤◌, ℕ, Bool, true, false, List, [], ◌∷◌, ◌++◌, Option}
 use Rattle.tp_model.specs.DiskHistory.{State}
 
--- The device at a path was asked for, for some seconds while another process had it, and it was got or not. Or an empty file was to be
--- made there and held, and that was done or not. Or it was opened, or one was given back; and what had become of it then.
+-- What was done with devices that are written:
+-- - `Holds`: the device at a path was asked for, for some seconds while another process had it, and it was got or not
+-- - `Makes`: an empty file was to be made at a path and held, and that was done or not
+-- - `Opens`: the device at a path was opened, in this state
+-- - `Closes`: a device was given back, in this state
 pub data DeviceCall : Type 0 where
   Holds : (path : List ℕ) → (seconds : ℕ) → (ok : Bool) → DeviceCall
   Makes : (path : List ℕ) → (ok : Bool) → DeviceCall
   Opens : (path : List ℕ) → (state : State) → DeviceCall
   Closes : (state : State) → DeviceCall
+  -- What was done with other files:
+  -- - `Reads`: a file was read whole
+  -- - `Looks`: a device was opened to be only read
+  -- - `Begins`: a device was begun in a file that is made or replaced
+  -- - `Leaves`: one of these devices was given back
+  -- - `Links`: the copy that was made at `part` got its name
+  -- - `Requests`: a request to stop was to be made at a path, and that was done or not
+  Reads : (path bytes : List ℕ) → DeviceCall
+  Looks : (path : List ℕ) → (state : State) → DeviceCall
+  Begins : (path : List ℕ) → (state : State) → DeviceCall
+  Leaves : (state : State) → DeviceCall
+  Links : (part copy : List ℕ) → DeviceCall
+  Requests : (path : List ℕ) → (ok : Bool) → DeviceCall
 
--- the path that the first of some calls asked for, or made a file at
+-- the path of the first of these calls, if it asked for a device or made a file
 abbrev pub path_held : List DeviceCall → List ℕ
 path_held [] = []
 path_held (Holds path seconds ok ∷ calls) = path
 path_held (Makes path ok ∷ calls) = path
 path_held (Opens path state ∷ calls) = []
 path_held (Closes state ∷ calls) = []
+path_held (Reads path bytes ∷ calls) = []
+path_held (Looks path state ∷ calls) = []
+path_held (Begins path state ∷ calls) = []
+path_held (Leaves state ∷ calls) = []
+path_held (Links part copy ∷ calls) = []
+path_held (Requests path ok ∷ calls) = []
 
--- A file was to be made once at this path, if nothing was, or none was. No device was asked for, opened or given back.
+-- At most one call was made: that a file was to be made at this path. No device was asked for, opened or given back.
 abbrev pub MadeAtMost : (path : List ℕ) → (old new : List DeviceCall) → Type 0
 MadeAtMost path old new = (new ≡ old) ⊎ ((new ≡ old ++ Makes path true ∷ []) ⊎ (new ≡ old ++ Makes path false ∷ []))
 
--- It was refused: no device was asked for or opened, and nothing printed.
+-- The command was refused: it asked for no device, opened none, and printed nothing.
 pub record WasRefused (old new : List DeviceCall) (was now : Option (List ℕ)) (status : ℕ) : Type 0 where
   pub refused : 1 ≤ status
   pub unopened : new ≡ old
   pub silent : now ≡ was
 
--- Just one device was opened, the one at this path, and it was given back. P holds of what had become of it as it was opened and as it was
--- given back.
+-- Only the device at this path was opened, and it was given back. `P` is true of its states when it was opened and when it was given back.
 pub record UsedOne (path : List ℕ) (old new : List DeviceCall) (P : State → State → Type 0) : Type 0 where
   pub opened : State
   pub closed : State

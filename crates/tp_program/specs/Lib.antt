@@ -1,3 +1,4 @@
+pub mod Lower
 pub mod Formats
 pub mod Running
 pub mod Compacting
@@ -9,4 +10,5 @@ pub mod Stops
 pub mod RunFile
 pub mod CompactFile
 pub mod StreamFile
+pub mod Uses
 pub mod Answers

@@ -1,19 +1,9 @@
 -- What `run` does.
 use Rattle.std.specs.Prelude.{◌≡◌, ℕ, List, Result, Ok, Err, min}
-use Rattle.tp_flush.specs.Known.{Began}
-use Rattle.tp_model.specs.DiskHistory.{State}
-use Rattle.tp_model.specs.Opening.{verdict}
-use Rattle.tp_recover.specs.Reading.{LeavesNothingNew}
-use Rattle.tp_run.specs.Answered.{AnswerFor}
-use Rattle.tp_run.specs.Faults.{IsSilent, IsUnbegun}
-use Rattle.tp_run.specs.Outlet.{OutletValue}
-use Rattle.tp_run.specs.Ran.{History, RanInto}
-use Rattle.tp_run.specs.declared.fault.RunFault.{RunFault}
+use Rattle.tp_program.specs.Lower.{Began, State, verdict, LeavesNothingNew, AnswerFor, IsSilent, IsUnbegun, OutletValue, History, RanInto, RunFault, Job, Run}
 use Rattle.tp_run.specs.declared.fault.RunFault.TheVariants.{Spare, Port}
-use Rattle.tp_run.specs.declared.job.Job.{Job}
-use Rattle.tp_words.specs.declared.args.Run.{Run}
 
--- what threads are asked: a number that no device has is the greatest of its kind
+-- the job of a run; a number above what any device has becomes the greatest of its kind
 abbrev pub job_of : Run → Job
 job_of run = record {
   turns = run.turns;
@@ -24,15 +14,15 @@ job_of run = record {
   port = min run.port 255;
 }
 
--- the status that a run ends with
+-- the status with which a run ends
 abbrev pub status_of : Result ℕ RunFault → ℕ
 status_of (Ok next) = 0
 status_of (Err Spare) = 2
 status_of (Err Port) = 2
 status_of _ = 1
 
--- A run of this job and input that ended with this status, for a reason that the device and the job give; what it left on the device and on standard
--- output, and the device's state at each call for that output.
+-- A run of this job and input ended with this status, for a reason that the device and the job give. This is what it left on the device and on
+-- standard output, and the device's state at each call for that output.
 pub record RanAs (keeps : Type 0) (history : History) (job : Job) (input : List ℕ) (old new : State) (was now : OutletValue) (status : ℕ) : Type 0 where
   pub done : Result ℕ RunFault
   pub is : status ≡ status_of done

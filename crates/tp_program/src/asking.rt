@@ -2,8 +2,9 @@
 
 ghost use Rattle.std.specs.Prelude.{◌≡◌, ◌≤◌, [], ◌∷◌, ◌++◌, false, true, replicate, IfErr, OnOk, string_bytes};
 ghost use Rattle.std.specs.Io.KnownBytes.{Appends};
-ghost use Rattle.tp_program.specs.Devices.{Holds};
-ghost use Rattle.tp_program.specs.Stops.{GotWithin, HasAsked, IsOfNobody, StopAnswered, WasUnasked, stop_line};
+ghost use Rattle.tp_program.specs.Devices.{Holds, Requests};
+ghost use Rattle.tp_program.specs.Stops.{GotWithin, HasAsked, IsOfNobody, StopAnswered, WasHeldElsewhere, WasUnasked, request_path, stop_line};
+ghost use Rattle.tp_program.specs.Uses.{AsksAgain, HasRequested};
 
 use crate::asking_explain::explain_unasked;
 use crate::devices::Devices;
@@ -20,10 +21,10 @@ use tp_stream_files::StandardStreams;
 use tp_views::{Refusal, is_openable, put, refuse};
 use tp_words::StopRequest;
 
-/// Why a request to stop isn't made.
+/// Why no request to stop is made.
 #[derive(Clone, Copy)]
 pub enum Unmade {
-    /// What is at its path is no request, and stays.
+    /// Something is at its path that is no request. It stays.
     StopExists,
     /// Its file can't be made.
     DeviceFailed,
@@ -31,18 +32,18 @@ pub enum Unmade {
     Memory,
 }
 
-/// Why a stream isn't asked to stop, or hasn't stopped.
+/// Why a stream isn't asked to stop, or hasn't ended.
 #[derive(Clone, Copy)]
 pub enum Unasked {
-    /// The device's file can't be opened to be read and written, or memory ran out, before it was asked who has it.
+    /// The device's file can't be opened to be read and written, or memory ran out, before the command asked who has it.
     Device(Refusal),
-    /// No other process has what is there, and by its head it is no device.
+    /// No other process has what is at the path, and by its head it is no device.
     NoDevice(Refusal),
     /// No other process has the device.
     NotRunning,
-    /// The request isn't made.
+    /// No request is made.
     Request(Unmade),
-    /// It is asked, and another process still has the device.
+    /// The stream is asked, but another process still has the device.
     StillRunning,
 }
 
@@ -67,7 +68,7 @@ impl fmt::Display for Unasked {
     }
 }
 
-/// Opens the device's file as a run does, and closes it: reads and writes nothing of it. Puts what the system said into `system`.
+/// Opens the device's file as a run does, and closes it, without reading or writing it. If that fails, what the system said goes into `system`.
 fn look_at<R: Files>(rt: &R, device: &str, system: &mut Option<io::Error>) -> Result<(), Refusal> {
     if !is_openable(rt, device) {
         return Err(Refusal::ReadFailed);
@@ -83,7 +84,7 @@ fn look_at<R: Files>(rt: &R, device: &str, system: &mut Option<io::Error>) -> Re
     }
 }
 
-/// Why what is at a path is no device, by its head alone, if it is none.
+/// Gives why the file at a path is no device, by its head alone; `None` if it is one.
 fn head_fault<R: Files<File = F>, F: FileExt + OpenFile + Drop>(
     rt: &R,
     device: &str,
@@ -97,7 +98,7 @@ fn head_fault<R: Files<File = F>, F: FileExt + OpenFile + Drop>(
     }
 }
 
-/// Why nobody is asked if no other process has the device: it is held here. It takes away a request that was left beside a device.
+/// Gives why nobody is asked if no other process has the device, which is then held here. Removes a request that was left beside a device.
 fn nobody_asked<R: Files<File = F>, F: FileExt + OpenFile + Drop>(
     rt: &R,
     device: &str,
@@ -114,7 +115,7 @@ fn nobody_asked<R: Files<File = F>, F: FileExt + OpenFile + Drop>(
     }
 }
 
-/// Why the file of a request isn't made.
+/// Gives why no request is made, for an error of the system.
 fn unmade_of(error: &io::Error) -> Unmade {
     match error.kind() {
         io::ErrorKind::AlreadyExists => Unmade::StopExists,
@@ -123,13 +124,19 @@ fn unmade_of(error: &io::Error) -> Unmade {
     }
 }
 
-/// Makes a request, where there is none. What the system said is put into `system`.
-fn make_request<R: Files>(
-    rt: &R,
+/// Makes a request, if none is there. If that fails, what the system said goes into `system`.
+fn make_request<S: Devices>(
+    devices: &mut S,
+    device: &str,
     file: &RequestFile,
     system: &mut Option<io::Error>,
-) -> Result<(), Unmade> {
-    match file.make(rt) {
+) -> Result<(), Unmade>
+    requires elsewhere { WasHeldElsewhere device.now (S.calls devices.old) }
+    requires beside { string_bytes file.now.path ≡ request_path device.now }
+    ensures made { OnOk result (S.uses devices.new ≡ S.uses devices.old ++ Requests (request_path device.now) true ∷ []) }
+    ensures uncalled { S.calls devices.new ≡ S.calls devices.old }
+{
+    match devices.request(device, file.path()) {
         Ok(()) => Ok(()),
         Err(error) => {
             let unmade = unmade_of(&error);
@@ -139,14 +146,15 @@ fn make_request<R: Files>(
     }
 }
 
-/// Asks for the device once more, at once. Answers whether it was got: then the request is taken away.
+/// Asks for the device once more, at once. Answers whether it got it; if it did, it removes the request.
 fn look_again<R: Files, S: Devices>(
     rt: &R,
     devices: &mut S,
     device: &str,
     file: &RequestFile,
 ) -> bool
-    ensures { S.calls devices.new ≡ S.calls devices.old ++ Holds device.now 0 result ∷ [] }
+    ensures held { S.calls devices.new ≡ S.calls devices.old ++ Holds device.now 0 result ∷ [] }
+    ensures unused { S.uses devices.new ≡ S.uses devices.old }
 {
     match devices.hold(device, 0) {
         Ok(()) => {
@@ -157,8 +165,9 @@ fn look_again<R: Files, S: Devices>(
     }
 }
 
-/// Asks for the device, for a second each time, until it was got or `seconds` are over. If the request is gone and another process still has the
-/// device, it makes the request again: that process took it for one from before. Answers whether the device was got: then it takes the request away.
+/// Asks for the device again and again, for a second each time, until it gets it or `seconds` seconds are over. Another process may have removed the
+/// request, because it took it for an earlier one. If that process still has the device, it makes the request again. Answers whether it got the
+/// device; if it did, it removes the request.
 fn wait_for<R: Files, S: Devices>(
     rt: &R,
     devices: &mut S,
@@ -166,6 +175,8 @@ fn wait_for<R: Files, S: Devices>(
     file: &RequestFile,
     seconds: u32,
 ) -> bool
+    requires { string_bytes file.now.path ≡ request_path device.now }
+    ensures again { AsksAgain device.now (S.uses devices.old) (S.uses devices.new) }
     ensures got { result ≡ true → GotWithin device.now seconds (S.calls devices.old) (S.calls devices.new) }
     ensures vain { result ≡ false → S.calls devices.new ≡ S.calls devices.old ++ replicate seconds (Holds device.now 1 false) }
 {
@@ -178,12 +189,12 @@ fn wait_for<R: Files, S: Devices>(
             }
             Err(InUse) => times += 1,
         }
-        let _made = file.make(rt);
+        let _made = devices.request(device, file.path());
     }
     false
 }
 
-/// Asks the stream that has a device to end, by `file`, if another process has it, and waits for that as long as it is asked.
+/// Asks the stream that has a device to end, by the request file `file`, if another process has the device. Then waits for that as long as was typed.
 fn ask_by<R: Files<File = F>, F: FileExt + OpenFile + Drop, S: Devices>(
     rt: &R,
     devices: &mut S,
@@ -191,6 +202,8 @@ fn ask_by<R: Files<File = F>, F: FileExt + OpenFile + Drop, S: Devices>(
     file: &RequestFile,
     system: &mut Option<io::Error>,
 ) -> Result<(), Unasked>
+    requires { string_bytes file.now.path ≡ request_path (string_bytes asked.now.device) }
+    ensures requested { OnOk result (HasRequested (string_bytes asked.now.device) (S.uses devices.old) (S.uses devices.new)) }
     ensures asked { OnOk result (HasAsked asked.now.wait (string_bytes asked.now.device) (S.calls devices.old) (S.calls devices.new)) }
     ensures refused { IfErr result (λ fault. WasUnasked fault asked.now.wait (string_bytes asked.now.device) (S.calls devices.old) (S.calls devices.new)) }
 {
@@ -198,7 +211,7 @@ fn ask_by<R: Files<File = F>, F: FileExt + OpenFile + Drop, S: Devices>(
     let Err(InUse) = devices.hold(device, 0) else {
         return Err(nobody_asked(rt, device, file));
     };
-    if let Err(unmade) = make_request(rt, file, system) {
+    if let Err(unmade) = make_request(devices, device, file, system) {
         return Err(Unasked::Request(unmade));
     }
     let Some(seconds) = asked.wait else {
@@ -212,14 +225,15 @@ fn ask_by<R: Files<File = F>, F: FileExt + OpenFile + Drop, S: Devices>(
     }
 }
 
-/// Asks the stream that has a device to end, if another process has it, and waits for that as long as it is asked. Nothing is read
-/// of the device then, and nothing is ever written to it.
+/// Asks the stream that has a device to end, if another process has the device. Then waits for that as long as was typed. It reads nothing of a
+/// device that another process has, and never writes to any.
 fn ask_to_stop<R: Files<File = F> + AllocGlobal, F: FileExt + OpenFile + Drop, S: Devices>(
     rt: &R,
     devices: &mut S,
     asked: &StopRequest,
     system: &mut Option<io::Error>,
 ) -> Result<(), Unasked>
+    ensures requested { OnOk result (HasRequested (string_bytes asked.now.device) (S.uses devices.old) (S.uses devices.new)) }
     ensures asked { OnOk result (HasAsked asked.now.wait (string_bytes asked.now.device) (S.calls devices.old) (S.calls devices.new)) }
     ensures refused { IfErr result (λ fault. WasUnasked fault asked.now.wait (string_bytes asked.now.device) (S.calls devices.old) (S.calls devices.new)) }
 {
@@ -233,7 +247,7 @@ fn ask_to_stop<R: Files<File = F> + AllocGlobal, F: FileExt + OpenFile + Drop, S
     }
 }
 
-/// Says that a stream was asked, or, if the command waited, that it has ended.
+/// Says that a stream was asked or, if the command waited, that it has ended.
 fn say_asked<O: Write>(wait: Option<u32>, out: &mut O) -> Result<(), Refusal>
     ensures { OnOk result (Appends (O.contents out.old) (O.contents out.new) (stop_line wait)) }
 {
@@ -254,7 +268,7 @@ fn report_asked<O: Write, E: Write>(wait: Option<u32>, out: &mut O, err: &mut E)
     }
 }
 
-/// Says why a stream wasn't asked, or hasn't ended. Answers the status. A failed write is ignored.
+/// Says why a stream wasn't asked, or hasn't ended. Answers the status. Ignores a failed write.
 fn refuse_unasked<E: Write>(err: &mut E, fault: Unasked) -> u8
     ensures { result ≡ 1 }
 {
@@ -262,9 +276,11 @@ fn refuse_unasked<E: Write>(err: &mut E, fault: Unasked) -> u8
     1
 }
 
-/// `tpnet stop`: asks the stream that has a device to end, waits for that as long as it is asked, and says so, or why not; if `explains`, says more.
-/// `devices` says whether another process has the device. Answers the program's status: 0 if the stream is asked, has ended if the command waits, and
-/// that was printed; 1 if it was refused; or 2 if standard output is the file of the device: then it asks nobody.
+/// `tpnet stop`: asks the stream that has a device to end, and waits for that as long as was typed. It says whether that was done, or why not; if
+/// `explains` is true, it says more. `devices` says whether another process has the device. Answers the program's status:
+/// - 0 if the stream is asked, and has ended if the command waits, and that was printed
+/// - 1 if it was refused
+/// - 2 if standard output is the file of the device; then it asks nobody
 pub(crate) fn answer_stop<
     R: Files<File = F> + StandardStreams + AllocGlobal,
     F: FileExt + OpenFile + Drop,
@@ -274,6 +290,7 @@ pub(crate) fn answer_stop<
 >(rt: &R, devices: &mut S, asked: &StopRequest, explains: bool, out: &mut O, err: &mut E) -> u8
     ensures few { result ≤ 2 }
     ensures answered { StopAnswered asked.now (S.calls devices.old) (S.calls devices.new) (O.contents out.old) (O.contents out.new) result }
+    ensures requested { result ≡ 0 → HasRequested (string_bytes asked.now.device) (S.uses devices.old) (S.uses devices.new) }
 {
     if prints_into(rt, asked.device.as_str()) {
         return refuse_output(err);

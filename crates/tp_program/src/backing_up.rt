@@ -1,9 +1,7 @@
 //! `tpnet backup`, over any device and any copy.
 
 ghost use Rattle.std.specs.Prelude.{◌≡◌, IfErr, IfOk, IsErr, IsSomeAnd, string_bytes};
-ghost use Rattle.tp_recover.specs.Copies.{CopyAnswer, area_kept};
-ghost use Rattle.tp_model.specs.Opening.{verdict};
-ghost use Rattle.tp_recover.specs.Reading.{LeavesNothingNew};
+ghost use Rattle.tp_program.specs.Lower.{CopyAnswer, area_kept, verdict, LeavesNothingNew};
 ghost use Rattle.tp_program.specs.Backups.{IsBackup, copied_line, copy_refusal};
 
 use std::alloc::{AllocError, Global};
@@ -13,17 +11,17 @@ use tp_disk::Disk;
 use tp_recover::{CopyFault, Opened, Unopened, copy_opened, open};
 use tp_views::{Refusal, refuse, show_on};
 
-/// How often a device is opened that another process writes meanwhile.
+/// How many times a device is opened that another process writes meanwhile.
 const MAX_TRIES: u32 = 20;
 
-/// What is printed of a copy that is made.
+/// Gives the line that is printed of a copy.
 pub(crate) fn copied_line(alloc: Global, next: u64) -> Result<String, AllocError>
     ensures { IfOk result (λ text. string_bytes text ≡ copied_line next) }
 {
     format!(in alloc; "copied next {next}\n")
 }
 
-/// Why an opened device wasn't copied.
+/// Gives the refusal that tells why a copy failed.
 fn refusal_of(fault: CopyFault) -> Refusal
     ensures { result ≡ copy_refusal fault }
 {
@@ -34,7 +32,7 @@ fn refusal_of(fault: CopyFault) -> Refusal
     }
 }
 
-/// Copies an opened device, or says why it isn't copied, and answers the status then.
+/// Copies an opened device. If that fails, it says why, and fails with the status.
 fn copy_or_refuse<D: Disk, K: Disk, E: Write>(
     alloc: Global,
     source: &mut D,
@@ -53,9 +51,9 @@ fn copy_or_refuse<D: Disk, K: Disk, E: Write>(
     }
 }
 
-/// Opens and copies a device once. Answers none if another process wrote it so that another try may do: then `show` opens it, or the
-/// area that was copied is another one now. If both keep the model none is never answered. Else says why there is no copy, and answers
-/// the status.
+/// Opens and copies a device once. Answers `None` if another process wrote the device meanwhile, and another try may succeed: `show` then opens it,
+/// or another area is open now than the one that was copied. If both devices keep the model, it never answers `None`. If it fails, it says why there
+/// is no copy, and fails with the status.
 fn copy_once<D: Disk, K: Disk, E: Write>(
     alloc: Global,
     source: &mut D,
@@ -78,10 +76,12 @@ fn copy_once<D: Disk, K: Disk, E: Write>(
     }
 }
 
-/// Makes a copy of a device that another process may be running, over what is in `copy`, which has to have at least as many bytes. Answers the number
-/// of the copy's next entry. Then the device opens, and the copy has all of it that counts, opens to its areas, open area, generation, end of the
-/// groups and number, and is synced. Else it says why not, as `show` does if the device doesn't open, and answers the status, 1: nothing is known of
-/// the copy then. It writes nothing to the device, and a crash finds nothing there that the call made.
+/// Makes a copy of a device that another process may be running, over what is in `copy`, which must have at least as many bytes. Answers the number
+/// of the copy's next entry. Then the device opens, and the copy is synced and has all of it that counts. The copy opens to the areas, open area,
+/// generation, end of the groups and next number of the device.
+///
+/// If that fails, it says why, as `show` does if the device doesn't open, and fails with the status 1; then nothing is known of the copy. It writes
+/// nothing to the device, so a crash leaves there nothing that this call made.
 pub fn backup_on<D: Disk, K: Disk, E: Write>(
     alloc: Global,
     source: &mut D,

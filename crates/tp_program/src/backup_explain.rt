@@ -12,7 +12,7 @@ use tp_stream_files::is_one_file;
 use tp_views::push_file;
 use tp_words::{Backup, Shown};
 
-/// Says what is in the way of the copy's name.
+/// Says what is at the copy's name already.
 fn push_there<R: Files + AllocGlobal>(
     rt: &R,
     text: &mut String,
@@ -67,7 +67,7 @@ fn push_uncopied<R: Files<File = F> + AllocGlobal, F: FileExt + OpenFile + Drop>
     )
 }
 
-/// Says that another backup makes the copy now, or was stopped.
+/// Says that another backup makes this copy now, or was stopped.
 fn push_part(text: &mut String, copy: &str) -> Result<(), AllocError> {
     let copy = Shown::all(copy);
     write!(
@@ -76,7 +76,7 @@ fn push_part(text: &mut String, copy: &str) -> Result<(), AllocError> {
     )
 }
 
-/// Says that the copy is there, and that this couldn't be printed.
+/// Says that the copy is there, but its line couldn't be printed.
 fn push_unprinted(text: &mut String, copy: &str) -> Result<(), AllocError> {
     let copy = Shown::all(copy);
     write!(
@@ -103,7 +103,7 @@ fn push_explanation<R: Files<File = F> + AllocGlobal, F: FileExt + OpenFile + Dr
     }
 }
 
-/// Says more of a backup that wasn't done on standard error.
+/// Says more, on standard error, of a backup that wasn't done.
 pub(crate) fn explain_backup<
     R: Files<File = F> + AllocGlobal,
     F: FileExt + OpenFile + Drop,

@@ -1,9 +1,12 @@
-//! `tpnet backup`, on files: how a copy comes to its name.
+//! `tpnet backup`, on files: how a copy gets its name.
 
 ghost use Rattle.std.specs.Prelude.{◌≡◌, IfOk, OnOk, string_bytes};
-ghost use Rattle.tp_program.specs.Backups.{IsCopiedLine, PrintsCopied};
+ghost use Rattle.tp_recover.specs.Reading.{LeavesNothingNew};
+ghost use Rattle.tp_program.specs.Backups.{PrintsCopied};
+ghost use Rattle.tp_program.specs.Uses.{HasBackup, IsBackedUp, IsCopyOf, IsFilled, IsLinked, part_of};
 
 use crate::backing_up::{backup_on, copied_line};
+use crate::devices::Devices;
 use crate::files::{disk_in, file_to_read};
 use crate::folders::sync_folder;
 use crate::rights::Rights;
@@ -19,29 +22,29 @@ use tp_words::Backup;
 
 /// Why a backup wasn't done.
 #[derive(Drop)]
-pub(crate) enum Undone {
-    /// Something stands at COPY, or COPY.part is the device.
+pub enum Undone {
+    /// Something is at COPY, or COPY.part is the device.
     CopyExists,
-    /// Something stands at COPY.part.
+    /// Something is at COPY.part.
     PartExists,
-    /// A call failed that looks for the copy's file, makes it, gives it its rights or names it.
+    /// A call failed that looks for the copy's file, makes it, gives it its rights, or names it.
     CopyFailed(io::Error),
-    /// The device's file isn't opened, or the device isn't copied, and it was said why. The system said that of the copy's file, where a
-    /// call on it failed.
+    /// The device's file isn't opened, or the device isn't copied, and that was said already. If a call on the copy's file failed, this has what the
+    /// system said of it.
     Uncopied(Option<io::Error>),
-    /// The copy is made, but that can't be printed.
+    /// The copy is made, but its line can't be printed.
     Unprinted,
     Memory,
 }
 
-/// The names of a copy: its own, and the one that it has until it is whole.
+/// The names of a copy: its own (`copy`), and the one that it has until it is whole (`part`).
 #[derive(Clone, Copy)]
 struct Names<'a> {
     copy: &'a str,
     part: &'a str,
 }
 
-/// Writes the name of a refusal. Answers the status. A failed write is let go.
+/// Says the name of a refusal. Answers the status. Ignores a failed write.
 fn refuse_as<E: Write>(err: &mut E, name: &str) -> u8
     ensures { result ≡ 1 }
 {
@@ -49,7 +52,7 @@ fn refuse_as<E: Write>(err: &mut E, name: &str) -> u8
     1
 }
 
-/// Says why a backup wasn't done, where that wasn't said yet. Answers the status.
+/// Says why a backup wasn't done, unless that was said already. Answers the status.
 pub(crate) fn refuse_undone<E: Write>(err: &mut E, undone: &Undone) -> u8
     ensures { result ≡ 1 }
 {
@@ -62,7 +65,7 @@ pub(crate) fn refuse_undone<E: Write>(err: &mut E, undone: &Undone) -> u8
     }
 }
 
-/// Whether something stands at a path, be it a link that leads nowhere.
+/// Whether something is at a path, even a link that leads nowhere.
 fn is_there<R: Files>(rt: &R, path: &str) -> Result<bool, Undone> {
     match fs::symlink_metadata(rt, path) {
         Ok(_) => Ok(true),
@@ -71,7 +74,7 @@ fn is_there<R: Files>(rt: &R, path: &str) -> Result<bool, Undone> {
     }
 }
 
-/// Refuses names at which something stands. An empty one names no file.
+/// Tests that nothing is at either name of the copy. Fails if something is there, or if `copy` is empty, which names no file.
 fn ask_names<R: Files>(rt: &R, device: &str, names: &Names<'_>) -> Result<(), Undone> {
     if names.copy.is_empty() {
         let error = io::Error::from(io::ErrorKind::NotFound);
@@ -90,40 +93,40 @@ fn ask_names<R: Files>(rt: &R, device: &str, names: &Names<'_>) -> Result<(), Un
     }
 }
 
-/// Makes the copy's file, which nobody but its owner may read.
+/// Makes the copy's file, which only its owner may read at first. Fails with `PartExists` if something is there.
 fn make_part<R: Files<File = F>, F: FileExt + OpenFile + Drop>(
     rt: &R,
-    names: &Names<'_>,
+    part: &str,
     rights: Rights,
 ) -> Result<F, Undone> {
     let mut how = OpenOptions::new();
     let how = how.read(true).write(true).create_new(true);
-    match how.mode(rights.at_first()).open(rt, names.part) {
+    match how.mode(rights.at_first()).open(rt, part) {
         Ok(file) => Ok(file),
         Err(error) if error.kind() == io::ErrorKind::AlreadyExists => Err(Undone::PartExists),
         Err(error) => Err(Undone::CopyFailed(error)),
     }
 }
 
-/// What the system keeps of the copy's file, which is removed where it can't be asked.
-fn kept_of<R: Files, F: OpenFile>(rt: &R, names: &Names<'_>, file: &F) -> Result<Metadata, Undone> {
+/// Gives what the system knows of the copy's file. If it doesn't answer, the file is removed.
+fn kept_of<R: Files, F: OpenFile>(rt: &R, part: &str, file: &F) -> Result<Metadata, Undone> {
     match file.metadata() {
         Ok(kept) => Ok(kept),
         Err(error) => {
-            let _left = fs::remove_file(rt, names.part);
+            let _left = fs::remove_file(rt, part);
             Err(Undone::CopyFailed(error))
         }
     }
 }
 
-/// Whether a path names the copy's file still, as far as the system says, by the numbers by which it tells that from all others: somebody may
-/// have removed it, and made another there.
+/// Whether a path still names the copy's file, as far as the system says. It compares the numbers by which the system tells files apart, since
+/// somebody may have removed the file and made another one there.
 fn is_named<R: Files>(rt: &R, path: &str, numbers: Option<FileNumbers>) -> bool {
     let kept = fs::metadata(rt, path);
     matches!(kept, Ok(kept) if numbers_in(&kept) == numbers)
 }
 
-/// Takes a name from the copy's file, where it has that still.
+/// Removes a name of the copy's file, if the name is still that file's.
 fn remove_name<R: Files>(rt: &R, path: &str, numbers: Option<FileNumbers>) -> io::Result<()> {
     if !is_named(rt, path, numbers) {
         return Err(io::Error::from(io::ErrorKind::NotFound));
@@ -131,34 +134,60 @@ fn remove_name<R: Files>(rt: &R, path: &str, numbers: Option<FileNumbers>) -> io
     fs::remove_file(rt, path)
 }
 
-/// Copies the device into the copy's file, which is closed then. Answers what is to be printed.
+/// Makes the copy's file and gives it the device's rights, before any byte of the device is in it. Gives a device of this size over it, which makes
+/// the file that long by its first call. Also answers which file it is. If that fails, the file is removed.
+pub(crate) fn begun_copy<R: Files<File = F>, F: FileExt + OpenFile + Drop>(
+    rt: &R,
+    part: &str,
+    rights: Rights,
+    size: u64,
+) -> Result<(NewDisk<F>, Option<FileNumbers>), Undone>
+    ensures { IfOk result (λ found. ⟦<NewDisk<F> as Disk>⟧.size_of found.0 ≡ size) }
+{
+    let file = make_part(rt, part, rights)?;
+    let kept = kept_of(rt, part, &file)?;
+    let numbers = numbers_in(&kept);
+    if let Err(error) = rights.give(&file, &kept) {
+        let _left = remove_name(rt, part, numbers);
+        return Err(Undone::CopyFailed(error));
+    }
+    let copy = NewFile::over(NotedFile::new(file), size);
+    Ok((Counted::new(copy), numbers))
+}
+
+/// Copies the device into the copy's file, and gives that file back. Answers the line to print.
 #[inline(never)]
-fn fill_part<D: Disk, F: FileExt + OpenFile + Drop, E: Write>(
+fn fill_part<S: Devices<New = N>, N: Disk + Drop, D: Disk, E: Write>(
     alloc: Global,
+    devices: &mut S,
     source: &mut D,
-    copy: NewDisk<F>,
+    copy: N,
     err: &mut E,
 ) -> Result<String, Undone>
-    ensures { IfOk result (λ text. IsCopiedLine (string_bytes text)) }
+    ensures filled { IfOk result (λ text. IsFilled D.keeps N.keeps (D.state source.old) (N.state copy) (S.uses devices.old) (S.uses devices.new) (string_bytes text)) }
+    ensures unwritten { D.keeps → LeavesNothingNew (D.state source.old) (D.state source.new) }
+    ensures uncalled { S.calls devices.new ≡ S.calls devices.old }
 {
     let mut copy = copy;
-    match backup_on(alloc, source, &mut copy, err) {
+    let done = backup_on(alloc, source, &mut copy, err);
+    let failure = devices.finish(copy);
+    match done {
         Ok(next) => match copied_line(alloc, next) {
             Ok(text) => Ok(text),
             Err(_) => Err(Undone::Memory),
         },
-        Err(_) => Err(Undone::Uncopied(copy.into_raw().into_failure())),
+        Err(_) => Err(Undone::Uncopied(failure)),
     }
 }
 
-/// Gives the file that is named by the one name the other, too. The kit's call takes 16 kB of the stack, four times the longest path, so it is
-/// alone here, and never inlined.
+/// Gives the file at `part` the name `copy`, too. The kit's call takes 16 kB of the stack, four times the longest path. So it has a function of its
+/// own, which is never inlined.
 #[inline(never)]
 fn link_names<R: Files>(rt: &R, names: &Names<'_>) -> io::Result<()> {
     fs::hard_link(rt, names.part, names.copy)
 }
 
-/// Gives the copy its name, which nothing else may have.
+/// Gives the copy its name, if nothing has that name. Fails with `CopyExists` if something has.
 fn link_copy<R: Files>(
     rt: &R,
     names: &Names<'_>,
@@ -175,7 +204,7 @@ fn link_copy<R: Files>(
     }
 }
 
-/// Takes the other name from the copy, and syncs the folder.
+/// Removes the copy's other name, and syncs the folder.
 fn settle_names<R: Files<File = F>, F: FileExt + OpenFile + Drop>(
     rt: &R,
     names: &Names<'_>,
@@ -185,90 +214,66 @@ fn settle_names<R: Files<File = F>, F: FileExt + OpenFile + Drop>(
     sync_folder(rt, names.copy)
 }
 
-/// Gives a copy that is whole and synced its name, which lasts. Where it doesn't, the copy has no such name.
-fn name_copy<R: Files<File = F>, F: FileExt + OpenFile + Drop>(
+/// Gives a copy that is whole and synced its name, and makes the name last. If that fails, the copy doesn't have it.
+pub(crate) fn name_copy<R: Files<File = F>, F: FileExt + OpenFile + Drop>(
     rt: &R,
-    names: &Names<'_>,
+    part: &str,
+    copy: &str,
     numbers: Option<FileNumbers>,
 ) -> Result<(), Undone> {
-    link_copy(rt, names, numbers)?;
-    match settle_names(rt, names, numbers) {
+    let names = Names { copy, part };
+    link_copy(rt, &names, numbers)?;
+    match settle_names(rt, &names, numbers) {
         Ok(()) => Ok(()),
         Err(error) => {
-            let _left = remove_name(rt, names.copy, numbers);
+            let _left = remove_name(rt, copy, numbers);
             Err(Undone::CopyFailed(error))
         }
     }
 }
 
-/// Gives the copy's file the device's rights, before any byte of that is in it, copies the device into it, and names it. Answers what is to be
-/// printed.
-fn fill_and_name<R: Files<File = F> + AllocGlobal, D: Disk, F: FileExt + OpenFile + Drop, E: Write>(
-    rt: &R,
+/// Copies the device into the copy's file, and gives that its name. Answers the line to print.
+fn fill_and_name<S: Devices<New = N>, N: Disk + Drop, D: Disk, E: Write>(
+    alloc: Global,
+    devices: &mut S,
     source: &mut D,
-    rights: Rights,
     names: &Names<'_>,
-    kept: &Metadata,
-    file: F,
+    copy: N,
+    numbers: Option<FileNumbers>,
     err: &mut E,
 ) -> Result<String, Undone>
-    ensures { IfOk result (λ text. IsCopiedLine (string_bytes text)) }
+    ensures linked { IfOk result (λ text. IsLinked D.keeps N.keeps names.now.part.now names.now.copy.now (D.state source.old) (N.state copy) (S.uses devices.old) (S.uses devices.new) (string_bytes text)) }
+    ensures unwritten { D.keeps → LeavesNothingNew (D.state source.old) (D.state source.new) }
+    ensures uncalled { S.calls devices.new ≡ S.calls devices.old }
 {
-    if let Err(error) = rights.give(&file, kept) {
-        return Err(Undone::CopyFailed(error));
-    }
-    let copy = Counted::new(NewFile::over(NotedFile::new(file), source.size()));
-    let text = fill_part(rt.alloc(), source, copy, err)?;
-    name_copy(rt, names, numbers_in(kept))?;
+    let text = fill_part(alloc, devices, source, copy, err)?;
+    devices.link(names.part, names.copy, numbers)?;
     Ok(text)
 }
 
-/// Makes the copy of a device, which has these rights. Answers what is to be printed. Where it isn't made, the file that was made for it is
-/// removed: it gets the length of the device with its first call as one.
-fn make_copy<R: Files<File = F> + AllocGlobal, F: FileExt + OpenFile + Drop, D: Disk, E: Write>(
+/// Makes a copy with these rights of a device. Answers the line to print. If that fails, the file that was made for the copy is removed.
+fn make_copy<R: Files + AllocGlobal, S: Devices<New = N>, N: Disk + Drop, D: Disk, E: Write>(
     rt: &R,
+    devices: &mut S,
     source: &mut D,
     rights: Rights,
     names: &Names<'_>,
     err: &mut E,
 ) -> Result<String, Undone>
-    ensures { IfOk result (λ text. IsCopiedLine (string_bytes text)) }
+    ensures copied { IfOk result (λ text. IsCopyOf D.keeps N.keeps names.now.part.now names.now.copy.now (D.state source.old) (S.uses devices.old) (S.uses devices.new) (string_bytes text)) }
+    ensures unwritten { D.keeps → LeavesNothingNew (D.state source.old) (D.state source.new) }
+    ensures uncalled { S.calls devices.new ≡ S.calls devices.old }
 {
-    let file = make_part(rt, names, rights)?;
-    let kept = kept_of(rt, names, &file)?;
-    let made = fill_and_name(rt, source, rights, names, &kept, file, err);
+    let (copy, numbers) = devices.begin_copy(names.part, rights, source.size())?;
+    let made = fill_and_name(rt.alloc(), devices, source, names, copy, numbers, err);
     if made.is_err() {
-        let _left = remove_name(rt, names.part, numbers_in(&kept));
+        let _left = remove_name(rt, names.part, numbers);
     }
     made
 }
 
-/// Makes the copy of a device, and prints what is to be printed.
-fn copy_and_print<
-    R: Files<File = F> + AllocGlobal,
-    F: FileExt + OpenFile + Drop,
-    D: Disk,
-    O: Write,
-    E: Write,
->(
-    rt: &R,
-    source: &mut D,
-    rights: Rights,
-    names: &Names<'_>,
-    out: &mut O,
-    err: &mut E,
-) -> Result<(), Undone>
-    ensures { OnOk result (PrintsCopied (O.contents out.old) (O.contents out.new)) }
-{
-    let text = make_copy(rt, source, rights, names, err)?;
-    match put(out, text.as_bytes()) {
-        Ok(()) => Ok(()),
-        Err(_) => Err(Undone::Unprinted),
-    }
-}
-
-/// Opens a device's file to be read alone. Answers the device, and the rights of its file.
-fn source_of<R: Files<File = F>, F: FileExt + OpenFile + Drop>(
+/// Opens a device's file to be only read. Answers the device, and the rights of its file.
+pub(crate) fn source_of<R: Files<File = F>, F: FileExt + OpenFile + Drop>(
     rt: &R,
     device: &str,
 ) -> Result<(Counted<RawFile<NotedFile<F>>>, Rights), Refusal> {
@@ -279,41 +284,75 @@ fn source_of<R: Files<File = F>, F: FileExt + OpenFile + Drop>(
     Ok((disk_in(file)?, Rights::of(&kept)))
 }
 
-/// Makes the copy of a device's file under these names, and prints that.
-fn backup_as<R: Files<File = F> + AllocGlobal, F: FileExt + OpenFile + Drop, O: Write, E: Write>(
-    rt: &R,
-    device: &str,
-    names: &Names<'_>,
-    out: &mut O,
-    err: &mut E,
-) -> Result<(), Undone>
-    ensures { OnOk result (PrintsCopied (O.contents out.old) (O.contents out.new)) }
+/// Opens a device to be only read, makes its copy under these names, and gives the device back. Answers the line to print.
+fn copy_device<
+    R: Files + AllocGlobal,
+    S: Devices<Device = D, New = N>,
+    D: Disk + Drop,
+    N: Disk + Drop,
+    E: Write,
+>(rt: &R, devices: &mut S, device: &str, names: &Names<'_>, err: &mut E) -> Result<String, Undone>
+    ensures made { IfOk result (λ text. IsBackedUp D.keeps N.keeps device.now names.now.part.now names.now.copy.now (S.uses devices.old) (S.uses devices.new) (string_bytes text)) }
+    ensures uncalled { S.calls devices.new ≡ S.calls devices.old }
 {
-    ask_names(rt, device, names)?;
-    let (mut source, rights) = match source_of(rt, device) {
+    let (mut source, rights) = match devices.look_to_copy(device) {
         Ok(found) => found,
         Err(refusal) => {
             refuse(err, refusal);
             return Err(Undone::Uncopied(None));
         }
     };
-    copy_and_print(rt, &mut source, rights, names, out, err)
+    let made = make_copy(rt, devices, &mut source, rights, names, err);
+    devices.leave(source);
+    made
 }
 
-/// `tpnet backup`, on files. The copy's names are asked for before the device's file is opened, and its file is made before the
-/// device is read. The device's file is opened to be read alone.
-pub(crate) fn backup_file<
-    R: Files<File = F> + AllocGlobal,
-    F: FileExt + OpenFile + Drop,
+/// Makes the copy of a device's file under these names, and prints its line.
+fn backup_as<
+    R: Files + AllocGlobal,
+    S: Devices<Device = D, New = N>,
+    D: Disk + Drop,
+    N: Disk + Drop,
     O: Write,
     E: Write,
->(rt: &R, backup: &Backup, out: &mut O, err: &mut E) -> Result<(), Undone>
-    ensures { OnOk result (PrintsCopied (O.contents out.old) (O.contents out.new)) }
+>(
+    rt: &R,
+    devices: &mut S,
+    device: &str,
+    names: &Names<'_>,
+    out: &mut O,
+    err: &mut E,
+) -> Result<(), Undone>
+    ensures printed { OnOk result (PrintsCopied (O.contents out.old) (O.contents out.new)) }
+    ensures made { OnOk result (HasBackup D.keeps N.keeps device.now names.now.part.now names.now.copy.now (S.uses devices.old) (S.uses devices.new) (O.contents out.old) (O.contents out.new)) }
+    ensures uncalled { S.calls devices.new ≡ S.calls devices.old }
+{
+    ask_names(rt, device, names)?;
+    let text = copy_device(rt, devices, device, names, err)?;
+    match put(out, text.as_bytes()) {
+        Ok(()) => Ok(()),
+        Err(_) => Err(Undone::Unprinted),
+    }
+}
+
+/// `tpnet backup`, on files. It checks the copy's names before it opens the device's file, and makes the copy's file before it reads the device. It
+/// opens the device's file to be only read.
+pub(crate) fn backup_file<
+    R: Files + AllocGlobal,
+    S: Devices<Device = D, New = N>,
+    D: Disk + Drop,
+    N: Disk + Drop,
+    O: Write,
+    E: Write,
+>(rt: &R, devices: &mut S, backup: &Backup, out: &mut O, err: &mut E) -> Result<(), Undone>
+    ensures printed { OnOk result (PrintsCopied (O.contents out.old) (O.contents out.new)) }
+    ensures made { OnOk result (HasBackup D.keeps N.keeps (string_bytes backup.now.device) (part_of (string_bytes backup.now.copy)) (string_bytes backup.now.copy) (S.uses devices.old) (S.uses devices.new) (O.contents out.old) (O.contents out.new)) }
+    ensures uncalled { S.calls devices.new ≡ S.calls devices.old }
 {
     let (device, copy) = (backup.device.as_str(), backup.copy.as_str());
     let Ok(part) = format!(in rt.alloc(); "{copy}.part") else {
         return Err(Undone::Memory);
     };
     let part = part.as_str();
-    backup_as(rt, device, &Names { copy, part }, out, err)
+    backup_as(rt, devices, device, &Names { copy, part }, out, err)
 }

@@ -13,8 +13,8 @@ use std::sync::Wait;
 use tp_disk::Disk;
 use tp_views::is_openable;
 
-/// `tpnet compact`, on a device's file, which is held. It is opened as it is, and keeps its length. What the system said of a call on it
-/// that failed is put into `system`.
+/// `tpnet compact`, on a device's file, which is held. It opens the file as it is, and keeps its length. If a call on it fails, what the system said
+/// goes into `system`.
 #[inline(never)]
 pub(crate) fn compact_file<
     R: Files + AllocGlobal + Wait,

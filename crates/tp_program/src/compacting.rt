@@ -1,10 +1,7 @@
 //! `tpnet compact`, over any device.
 
 ghost use Rattle.std.specs.Prelude.{◌≡◌, ◌≤◌, IfErr, IfOk, IsErr, Ok, OnOk, string_bytes};
-ghost use Rattle.std.specs.Io.KnownBytes.{Appends};
-ghost use Rattle.tp_model.specs.Opening.{verdict};
-ghost use Rattle.tp_recover.specs.Reading.{LeavesNothingNew};
-ghost use Rattle.tp_run.specs.Ran.{History};
+ghost use Rattle.tp_program.specs.Lower.{Appends, verdict, LeavesNothingNew, History};
 ghost use Rattle.tp_program.specs.Compacting.{CompactedAs, PrintsDone, compaction_line};
 
 use std::alloc::Global;
@@ -14,7 +11,7 @@ use tp_disk::Disk;
 use tp_run::{CompactFault, Compaction, compact};
 use tp_views::{Refusal, put, refuse};
 
-/// What is printed of a device that was compacted.
+/// Gives the line that is printed of a device that was compacted.
 fn compaction_line(alloc: Global, done: Compaction) -> Result<String, Refusal>
     ensures line { IfOk result (λ text. string_bytes text ≡ compaction_line done) }
     ensures memory { IfErr result (λ refusal. refusal ≡ Refusal.Memory) }
@@ -37,7 +34,7 @@ fn print_done<O: Write>(alloc: Global, done: Compaction, out: &mut O) -> Result<
     put(out, text.as_bytes())
 }
 
-/// Says why a device wasn't compacted. Answers the status. A failed write of that is dropped.
+/// Says why a device wasn't compacted. Answers the status. Ignores a failed write.
 fn refuse_compaction<E: Write>(err: &mut E, fault: CompactFault) -> u8
     ensures { result ≡ 1 }
 {
@@ -66,9 +63,9 @@ fn report<O: Write, E: Write>(
     }
 }
 
-/// `tpnet compact`, on a device: makes its network, as it is, its cut, after which the journal is empty, and prints the generation of that cut, which
-/// number the next entry gets, and how many entries the journal takes. Answers the device, and the program's status: 0 if that was done and printed,
-/// else 1. A device that doesn't open is left as it is, and nothing is printed then.
+/// `tpnet compact`, on a device: it makes its network as it is the cut, so that its journal is empty. Prints the generation of that cut, the number
+/// that the next entry gets, and how many entries the journal takes. Answers the device, and the program's status: 0 if that was done and printed,
+/// else 1. If a device doesn't open, it stays as it is, and nothing is printed.
 pub fn compact_on<D: Disk, O: Write, E: Write, R: Wait>(
     rt: &R,
     alloc: Global,

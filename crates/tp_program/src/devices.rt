@@ -1,29 +1,34 @@
-//! The devices that commands write: who holds them, makes files for them, opens them, and takes them back.
+//! The devices and files of commands: they are held, made, opened, read, copied and given back.
 
 ghost use Rattle.std.specs.Prelude.{◌≡◌, ℕ, true, false, List, [], ◌∷◌, ◌++◌, Option, Some, None, is_ok, IfOk, IsErrAnd, OnOk, OnErr};
-ghost use Rattle.std.specs.IoError.{error_kind};
-ghost use Rattle.std.specs.Option.{option_map};
-ghost use Rattle.tp_program.specs.Devices.{DeviceCall, Holds, Makes, Opens, Closes, path_held};
+ghost use Rattle.tp_program.specs.Lower.{error_kind, option_map};
+ghost use Rattle.tp_program.specs.Devices.{DeviceCall, Holds, Makes, Opens, Closes, Reads, Looks, Begins, Leaves, Links, Requests, path_held};
+ghost use Rattle.tp_program.specs.Stops.{WasHeldElsewhere, request_path};
 
+use crate::backup_files::{Undone, begun_copy, name_copy, source_of};
 use crate::device_calls::DeviceCalls;
-use crate::files::read_refusal;
+use crate::files::{disk_to_read, read_refusal};
+use crate::folders::sync_folder;
 use crate::in_use::{changed, is_busy};
 use crate::locks::{Held, InUse, Locks};
+use crate::request_file::make_request;
+use crate::rights::Rights;
 use std::fs::{Files, OpenFile, OpenOptions};
 use std::io::{ErrorKind, Write};
 use std::os::unix::fs::FileExt;
 use std::{fs, io};
-use tp_disk::{Counted, Disk, NotedFile, RawFile};
+use tp_disk::{Counted, Disk, NewDisk, NotedFile, RawFile};
+use tp_stream_files::FileNumbers;
 use tp_views::{Refusal, refuse};
 
-/// That a file was made at the path of a device, for it and by this process, which holds it since.
+/// Shows that this process made a file at the path of a device, for that device, and has held it since.
 #[derive(Drop)]
 pub struct Made {
     noted: DeviceCalls,
 }
 
 impl Made {
-    /// A file that was made at this path.
+    /// Notes that a file was made at this path.
     fn new(path: &str) -> Made
         ensures { path_held result.noted.told ≡ path.now }
     {
@@ -33,89 +38,187 @@ impl Made {
     }
 }
 
-/// Holds devices, makes files for them, opens them to be written, and takes them back.
+/// What commands do with devices and files. It holds devices, makes files for them, opens them to be written, and takes them back. It reads files and
+/// devices, makes copies, and asks streams to stop.
 pub trait Devices {
     type Device: Disk + Drop;
 
-    /// Which were asked for, made, opened and given back, and what had become of each then, the oldest first.
+    /// A device in a file that was begun for it: one that is formatted, or a copy.
+    type New: Disk + Drop;
+
+    /// Which devices were asked for, made, opened to be written and given back, and their states then; the oldest call comes first.
     ghost calls: { Self → List DeviceCall };
 
-    /// The path of the device that is held: no other process has it. No call lets it go.
+    /// What else was done with files, and the state of each device then; the oldest call comes first.
+    ghost uses: { Self → List DeviceCall };
+
+    /// The path of the device that is held, so that no other process has it. No call gives it up.
     ghost held: { Self → Option (List ℕ) };
 
-    /// Asks for the device at a path, and again for `seconds` while another process has it. Once it is got, it is held.
+    /// Asks for the device at a path, and holds it once it gets it. While another process has it, it tries again for `seconds` seconds; then it
+    /// fails.
     fn hold(&mut self, path: &str, seconds: u32) -> Result<(), InUse>
         ensures noted { calls self.new ≡ calls self.old ++ Holds path.now seconds (is_ok result) ∷ [] }
-        ensures got { OnOk result (held self.new ≡ Some path.now) };
+        ensures got { OnOk result (held self.new ≡ Some path.now) }
+        ensures unused { uses self.new ≡ uses self.old };
 
-    /// Whether what stands at a path is what stood there as the device was asked for: the file that is held, or nothing. It is asked anew each
-    /// time.
+    /// Whether the path still has what it had when the device was asked for: the file that is held, or nothing. It checks anew each time.
     fn is_kept(&self, path: &str) -> bool;
 
-    /// Makes an empty file for the device at a path, which is held, and holds that file at once. What stands there already is `AlreadyExists`,
-    /// and stays; a file that another process took as soon as it was made is in use, and left to it.
+    /// Makes an empty file for the device at a path, which is held, and holds that file at once. Fails with `AlreadyExists` if something is at the
+    /// path, which stays. Fails with `ResourceBusy` if another process took the new file first; the file is left to it.
     fn make(&mut self, path: &str) -> io::Result<Made>
         requires { held self.old ≡ Some path.now }
         ensures noted { calls self.new ≡ calls self.old ++ Makes path.now (is_ok result) ∷ [] }
         ensures made { IfOk result (λ made. path_held made.noted.told ≡ path.now) }
-        ensures kept { held self.new ≡ held self.old };
+        ensures kept { held self.new ≡ held self.old }
+        ensures unused { uses self.new ≡ uses self.old };
 
-    /// Removes the file that was made at a path, which is held, where the path names that file still. A failed call is let go.
+    /// Removes the file that was made at a path, which is held, if the path still names that file. Ignores a failed call.
     fn remove(&self, path: &str, made: Made)
         requires held { held self.now ≡ Some path.now }
         requires made { path_held made.noted.told ≡ path.now };
 
-    /// Opens the device at a path, which is held, as it is. Where another file stands there by now, or none any more, that is said, whatever else
-    /// opening it says.
+    /// Opens the device at a path, which is held, as it is. If the path has another file by now, or none any more, it fails with `ResourceBusy`,
+    /// whatever else went wrong.
     fn open(&mut self, path: &str) -> io::Result<Self::Device>
         requires { held self.old ≡ Some path.now }
         ensures opened { IfOk result (λ device. calls self.new ≡ calls self.old ++ Opens path.now (Self.Device.state device) ∷ []) }
         ensures refused { OnErr result (calls self.new ≡ calls self.old) }
-        ensures kept { held self.new ≡ held self.old };
+        ensures kept { held self.new ≡ held self.old }
+        ensures unused { uses self.new ≡ uses self.old };
 
-    /// Takes a device back. Answers what the system said of the last call of it that failed.
+    /// Takes a device back. Answers what the system said of the last call on it that failed; `None` if none did.
     fn close(&mut self, device: Self::Device) -> Option<io::Error>
         ensures noted { calls self.new ≡ calls self.old ++ Closes (Self.Device.state device) ∷ [] }
+        ensures kept { held self.new ≡ held self.old }
+        ensures unused { uses self.new ≡ uses self.old };
+
+    /// Reads a whole file.
+    fn read(&mut self, path: &str) -> io::Result<Vec<u8>>
+        ensures read { IfOk result (λ bytes. uses self.new ≡ uses self.old ++ Reads path.now bytes.items ∷ []) }
+        ensures unread { OnErr result (uses self.new ≡ uses self.old) }
+        ensures uncalled { calls self.new ≡ calls self.old }
+        ensures kept { held self.new ≡ held self.old };
+
+    /// Opens the device at a path to be only read. Fails if it isn't a device's file.
+    fn look(&mut self, path: &str) -> Result<Self::Device, Refusal>
+        ensures looked { IfOk result (λ device. uses self.new ≡ uses self.old ++ Looks path.now (Self.Device.state device) ∷ []) }
+        ensures refused { OnErr result (uses self.new ≡ uses self.old) }
+        ensures uncalled { calls self.new ≡ calls self.old }
+        ensures kept { held self.new ≡ held self.old };
+
+    /// Opens the device at a path to be only read, and says which rights its copy gets.
+    fn look_to_copy(&mut self, path: &str) -> Result<(Self::Device, Rights), Refusal>
+        ensures looked { IfOk result (λ found. uses self.new ≡ uses self.old ++ Looks path.now (Self.Device.state found.0) ∷ []) }
+        ensures refused { OnErr result (uses self.new ≡ uses self.old) }
+        ensures uncalled { calls self.new ≡ calls self.old }
+        ensures kept { held self.new ≡ held self.old };
+
+    /// Takes back a device that was only read.
+    fn leave(&mut self, device: Self::Device)
+        ensures noted { uses self.new ≡ uses self.old ++ Leaves (Self.Device.state device) ∷ [] }
+        ensures uncalled { calls self.new ≡ calls self.old }
+        ensures kept { held self.new ≡ held self.old };
+
+    /// Gives a device of this size in the file at a path, which is held. The file stays as it was until the first call on the device. If the path has
+    /// another file by now, it fails with `ResourceBusy`, since that one belongs to another process.
+    fn replace(&mut self, path: &str, size: u64) -> io::Result<Self::New>
+        requires { held self.old ≡ Some path.now }
+        ensures begun { IfOk result (λ device. (Self.New.size_of device ≡ size) × (uses self.new ≡ uses self.old ++ Begins path.now (Self.New.state device) ∷ [])) }
+        ensures refused { OnErr result (uses self.new ≡ uses self.old) }
+        ensures uncalled { calls self.new ≡ calls self.old }
+        ensures kept { held self.new ≡ held self.old };
+
+    /// Gives a device of this size in an empty file that was made for it at a path, which is held. By then the file's name lasts, and all bytes of
+    /// the device are on the disk, as 00. If the path has another file by now, it fails with `ResourceBusy`.
+    fn fill(&mut self, path: &str, size: u64) -> io::Result<Self::New>
+        requires { held self.old ≡ Some path.now }
+        ensures begun { IfOk result (λ device. (Self.New.size_of device ≡ size) × (uses self.new ≡ uses self.old ++ Begins path.now (Self.New.state device) ∷ [])) }
+        ensures refused { OnErr result (uses self.new ≡ uses self.old) }
+        ensures uncalled { calls self.new ≡ calls self.old }
+        ensures kept { held self.new ≡ held self.old };
+
+    /// Makes the file of a copy, with these rights, and gives a device of this size over it. Also answers the numbers by which the system tells that
+    /// file from others.
+    fn begin_copy(
+        &mut self,
+        part: &str,
+        rights: Rights,
+        size: u64,
+    ) -> Result<(Self::New, Option<FileNumbers>), Undone>
+        ensures begun { IfOk result (λ found. (Self.New.size_of found.0 ≡ size) × (uses self.new ≡ uses self.old ++ Begins part.now (Self.New.state found.0) ∷ [])) }
+        ensures refused { OnErr result (uses self.new ≡ uses self.old) }
+        ensures uncalled { calls self.new ≡ calls self.old }
+        ensures kept { held self.new ≡ held self.old };
+
+    /// Takes back a device that was begun. Answers what the system said of the call on it that failed; `None` if none did.
+    fn finish(&mut self, device: Self::New) -> Option<io::Error>
+        ensures noted { uses self.new ≡ uses self.old ++ Leaves (Self.New.state device) ∷ [] }
+        ensures uncalled { calls self.new ≡ calls self.old }
+        ensures kept { held self.new ≡ held self.old };
+
+    /// Gives the copy that was made at `part`, whose file has these numbers, its name `copy`, and makes that name last. If it fails, the copy doesn't
+    /// have that name.
+    fn link(&mut self, part: &str, copy: &str, numbers: Option<FileNumbers>) -> Result<(), Undone>
+        ensures named { OnOk result (uses self.new ≡ uses self.old ++ Links part.now copy.now ∷ []) }
+        ensures refused { OnErr result (uses self.new ≡ uses self.old) }
+        ensures uncalled { calls self.new ≡ calls self.old }
+        ensures kept { held self.new ≡ held self.old };
+
+    /// Makes a request to stop for a device, at its path, if none is there. Another process had the device when it was last asked for.
+    fn request(&mut self, device: &str, path: &str) -> io::Result<()>
+        requires elsewhere { WasHeldElsewhere device.now (calls self.old) }
+        requires beside { path.now ≡ request_path device.now }
+        ensures noted { uses self.new ≡ uses self.old ++ Requests path.now (is_ok result) ∷ [] }
+        ensures uncalled { calls self.new ≡ calls self.old }
         ensures kept { held self.new ≡ held self.old };
 }
 
-/// The devices in files of the system.
+/// Devices in files of the system.
 ///
-/// That each method here makes the one call that it notes is held by reading alone: no contract can say what a file takes.
+/// Each method here makes the one call that it notes. That is known by reading alone: no contract can say what a file takes.
 #[derive(Drop)]
 pub struct FileDevices<'r, R, L: Drop, K: Drop> {
     rt: &'r R,
     locks: L,
-    /// The lock of the device that is held, until all is let go.
+    /// The lock of the device that is held, until this value is dropped.
     held: Option<Held<K>>,
     noted: DeviceCalls,
+    used: DeviceCalls,
 }
 
 impl<'r, R, L: Drop, K: Drop> FileDevices<'r, R, L, K> {
-    /// No device was asked for.
+    /// Begins with no device asked for.
     pub fn new(rt: &'r R, locks: L) -> FileDevices<'r, R, L, K>
         ensures none { result.noted.told ≡ [] }
         ensures free { result.held ≡ None }
+        ensures unused { result.used.told ≡ [] }
     {
         FileDevices {
             rt,
             locks,
             held: None,
             noted: DeviceCalls::new(),
+            used: DeviceCalls::new(),
         }
     }
 }
 
 impl<
     'r,
-    R: Files<File = F>,
+    R: Files<File = F> + AllocGlobal,
     F: FileExt + OpenFile + Drop,
     L: Locks<F, Lock = K> + Drop,
     K: Drop,
 > Devices for FileDevices<'r, R, L, K> {
     type Device = Counted<RawFile<NotedFile<F>>>;
 
+    type New = NewDisk<F>;
+
     ghost calls = { λ devices. devices.noted.told };
+
+    ghost uses = { λ devices. devices.used.told };
 
     ghost held = { λ devices. option_map (λ held. path_held held.noted.told) devices.held };
 
@@ -157,9 +260,93 @@ impl<
         self.noted = self.noted.closed(&device);
         device.raw().failure().map(said_again)
     }
+
+    fn read(&mut self, path: &str) -> io::Result<Vec<u8>> {
+        let bytes = fs::read(self.rt, path)?;
+        self.used = self.used.read(path, bytes.as_slice());
+        Ok(bytes)
+    }
+
+    fn look(&mut self, path: &str) -> Result<Counted<RawFile<NotedFile<F>>>, Refusal> {
+        let device = disk_to_read(self.rt, path)?;
+        self.used = self.used.looked(path, &device);
+        Ok(device)
+    }
+
+    fn look_to_copy(
+        &mut self,
+        path: &str,
+    ) -> Result<(Counted<RawFile<NotedFile<F>>>, Rights), Refusal> {
+        let (device, rights) = source_of(self.rt, path)?;
+        self.used = self.used.looked(path, &device);
+        Ok((device, rights))
+    }
+
+    fn leave(&mut self, device: Counted<RawFile<NotedFile<F>>>) {
+        self.used = self.used.left(&device);
+    }
+
+    fn replace(&mut self, path: &str, size: u64) -> io::Result<NewDisk<F>> {
+        let disk = NewDisk::create_over(self.rt, path, size)?;
+        if !self.is_kept(path) {
+            return Err(changed());
+        }
+        self.used = self.used.begun(path, &disk);
+        Ok(disk)
+    }
+
+    fn fill(&mut self, path: &str, size: u64) -> io::Result<NewDisk<F>> {
+        sync_folder(self.rt, path)?;
+        let mut disk = NewDisk::create_over(self.rt, path, size)?;
+        if !self.is_kept(path) {
+            return Err(changed());
+        }
+        if disk.sync().is_err() {
+            return Err(failure_of(disk));
+        }
+        self.used = self.used.begun(path, &disk);
+        Ok(disk)
+    }
+
+    fn begin_copy(
+        &mut self,
+        part: &str,
+        rights: Rights,
+        size: u64,
+    ) -> Result<(NewDisk<F>, Option<FileNumbers>), Undone> {
+        let (disk, numbers) = begun_copy(self.rt, part, rights, size)?;
+        self.used = self.used.begun(part, &disk);
+        Ok((disk, numbers))
+    }
+
+    fn finish(&mut self, device: NewDisk<F>) -> Option<io::Error> {
+        self.used = self.used.left(&device);
+        device.into_raw().into_failure()
+    }
+
+    fn link(&mut self, part: &str, copy: &str, numbers: Option<FileNumbers>) -> Result<(), Undone> {
+        name_copy(self.rt, part, copy, numbers)?;
+        self.used = self.used.named(part, copy);
+        Ok(())
+    }
+
+    fn request(&mut self, _device: &str, path: &str) -> io::Result<()> {
+        let made = make_request(self.rt, path);
+        self.used = self.used.requested(path, made.is_ok());
+        made
+    }
 }
 
-/// Makes an empty file at a path, where nothing stands, and takes its lock. Where another process has that already, the file is left to it.
+/// Gives what the system said of the call by which a device failed.
+fn failure_of<F: FileExt + OpenFile + Drop>(disk: NewDisk<F>) -> io::Error {
+    match disk.into_raw().into_failure() {
+        Some(error) => error,
+        None => io::Error::from(io::ErrorKind::Other),
+    }
+}
+
+/// Makes an empty file at a path that has nothing, and takes its lock. If another process has taken that lock already, it fails and leaves the file
+/// to it.
 fn made_file<R: Files<File = F>, F: OpenFile + Drop, L: Locks<F, Lock = K>, K: Drop>(
     rt: &R,
     locks: &mut L,
@@ -175,8 +362,8 @@ fn made_file<R: Files<File = F>, F: OpenFile + Drop, L: Locks<F, Lock = K>, K: D
     }
 }
 
-/// What came of opening a device where what stands at its path is what stood there as it was asked for; else that another process has changed
-/// that, whatever came of it.
+/// Answers `opened` if the path of the device still has what it had when it was asked for. Otherwise it fails with `ResourceBusy`, whatever `opened`
+/// says.
 fn kept_only<T: Drop>(opened: io::Result<T>, is_kept: bool) -> io::Result<T>
     ensures kept { is_kept ≡ true → result ≡ opened }
     ensures changed { is_kept ≡ false → IsErrAnd result (λ error. error_kind error ≡ ErrorKind.ResourceBusy) }
@@ -192,7 +379,7 @@ fn said_again(error: &io::Error) -> io::Error {
     }
 }
 
-/// Why a device wasn't opened: another process has it where another file stands there by now.
+/// Gives why a device wasn't opened, for an error of the system. If another file is at its path by now, another process has it.
 pub(crate) fn opening_refusal(error: &io::Error) -> Refusal {
     if is_busy(error) {
         Refusal::InUse
@@ -201,8 +388,8 @@ pub(crate) fn opening_refusal(error: &io::Error) -> Refusal {
     }
 }
 
-/// Says why what is at the path of a device, which is held, isn't opened: it is no regular file. Where another process has put it there since the
-/// device was asked for, it says that, and puts it into `system`. Answers the status.
+/// Says why the file at the path of a device, which is held, isn't opened: it is no regular file. If another process has put it there since the
+/// device was asked for, it says that, and puts that error into `system`. Answers the status.
 pub(crate) fn refuse_special<S: Devices, E: Write>(
     devices: &S,
     path: &str,

@@ -1,9 +1,12 @@
 //! The commands on files that write no device.
 
-ghost use Rattle.std.specs.Prelude.{◌≡◌, ◌≤◌, IfErr};
-ghost use Rattle.std.specs.IoError.{error_kind};
+ghost use Rattle.std.specs.Prelude.{◌≡◌, ◌⊎◌, ◌≤◌, ◌++◌, ◌∷◌, [], IfErr, IfOk, IsSome, None, OnErr, Ok, length, map, string_bytes};
+ghost use Rattle.tp_program.specs.Lower.{error_kind, Appends, start_of, read_text, node_names, topology_said, no_maps, maps_seen, recovered, shown};
+ghost use Rattle.tp_program.specs.Devices.{Reads, WasRefused};
+ghost use Rattle.tp_program.specs.Uses.{Checked, CheckedText, HasStatus, LooksAtOne, ReadsOne, Shows, Told, TracedBy, Tried, Untold, ViewedBy, image_of, images_read};
 
-use crate::map_texts::{MapTexts, read_texts};
+use crate::devices::Devices;
+use crate::map_texts::read_texts;
 use crate::watching::Watch;
 use std::alloc::Global;
 use std::fs::{Files, OpenFile, OpenOptions};
@@ -11,7 +14,7 @@ use std::io::{ErrorKind, Write};
 use std::os::unix::fs::FileExt;
 use std::thread::Threads;
 use std::{fs, io};
-use tp_disk::{Counted, NotedFile, RawFile};
+use tp_disk::{Counted, Disk, NotedFile, RawFile};
 use tp_net::{Named, Topology};
 use tp_views::{
     NodeMaps, Refusal, Seen, check_on, is_openable, read_maps, recover_on, refuse, show_on,
@@ -33,16 +36,19 @@ pub(crate) fn read_refusal(error: &io::Error) -> Refusal
 
 /// `tpnet try`, on the image's file.
 #[inline(never)]
-pub fn try_file<R: Files + AllocGlobal, O: Write, E: Write>(
+pub fn try_file<R: Files + AllocGlobal, S: Devices, O: Write, E: Write>(
     rt: &R,
+    devices: &mut S,
     image: &str,
     turns: u32,
     out: &mut O,
     err: &mut E,
 ) -> u8
-    ensures { result ≤ 1 }
+    ensures few { result ≤ 1 }
+    ensures uncalled { S.calls devices.new ≡ S.calls devices.old }
+    ensures used { WasRefused (S.uses devices.old) (S.uses devices.new) (O.contents out.old) (O.contents out.new) result ⊎ ReadsOne image.now (S.uses devices.old) (S.uses devices.new) (Tried turns (O.contents out.old) (O.contents out.new) result) }
 {
-    match read_source(rt, image) {
+    match read_source(rt, devices, image) {
         Ok(bytes) => try_on(rt.alloc(), bytes.as_slice(), turns, out, err),
         Err(refusal) => refuse(err, refusal),
     }
@@ -57,16 +63,29 @@ pub(crate) fn read_file<R: Files + AllocGlobal>(rt: &R, path: &str) -> Result<Ve
 }
 
 /// Reads a whole image or topology. What is no regular file isn't opened: a FIFO would be waited for.
-pub(crate) fn read_source<R: Files + AllocGlobal>(rt: &R, path: &str) -> Result<Vec<u8>, Refusal> {
-    if is_openable(rt, path) {
-        read_file(rt, path)
-    } else {
-        Err(Refusal::ReadFailed)
+pub(crate) fn read_source<R: Files, S: Devices>(
+    rt: &R,
+    devices: &mut S,
+    path: &str,
+) -> Result<Vec<u8>, Refusal>
+    ensures read { IfOk result (λ bytes. S.uses devices.new ≡ S.uses devices.old ++ Reads path.now bytes.items ∷ []) }
+    ensures unread { OnErr result (S.uses devices.new ≡ S.uses devices.old) }
+    ensures uncalled { S.calls devices.new ≡ S.calls devices.old }
+    ensures kept { S.held devices.new ≡ S.held devices.old }
+{
+    if !is_openable(rt, path) {
+        return Err(Refusal::ReadFailed);
+    }
+    match devices.read(path) {
+        Ok(bytes) => Ok(bytes),
+        Err(error) => Err(read_refusal(&error)),
     }
 }
 
 /// The path of a node's image.
-pub(crate) fn image_path(alloc: Global, folder: &str, name: &str) -> Result<String, Refusal> {
+pub(crate) fn image_path(alloc: Global, folder: &str, name: &str) -> Result<String, Refusal>
+    ensures { IfOk result (λ path. string_bytes path ≡ image_of folder.now name.now) }
+{
     match format!(in alloc; "{folder}/{name}.img") {
         Ok(path) => Ok(path),
         Err(_) => Err(Refusal::Memory),
@@ -74,50 +93,57 @@ pub(crate) fn image_path(alloc: Global, folder: &str, name: &str) -> Result<Stri
 }
 
 /// Reads the image of a node.
-fn read_image<R: Files + AllocGlobal>(
+fn read_image<R: Files + AllocGlobal, S: Devices>(
     rt: &R,
+    devices: &mut S,
     folder: &str,
     name: &str,
-) -> Result<Vec<u8>, Refusal> {
+) -> Result<Vec<u8>, Refusal>
+    ensures read { IfOk result (λ bytes. S.uses devices.new ≡ S.uses devices.old ++ Reads (image_of folder.now name.now) bytes.items ∷ []) }
+    ensures uncalled { S.calls devices.new ≡ S.calls devices.old }
+    ensures kept { S.held devices.new ≡ S.held devices.old }
+{
     let path = image_path(rt.alloc(), folder, name)?;
-    read_source(rt, path.as_str())
-}
-
-/// Reads the image of a node, and appends it to others.
-fn push_image<R: Files + AllocGlobal>(
-    rt: &R,
-    folder: &str,
-    name: &str,
-    images: &mut Vec<Vec<u8>>,
-) -> Result<(), Refusal> {
-    let image = read_image(rt, folder, name)?;
-    match images.push(image) {
-        Ok(()) => Ok(()),
-        Err(_) => Err(Refusal::Memory),
-    }
+    read_source(rt, devices, path.as_str())
 }
 
 /// Reads the image of each node, in their order.
-fn read_images<R: Files + AllocGlobal>(
+fn read_images<R: Files + AllocGlobal, S: Devices>(
     rt: &R,
+    devices: &mut S,
     folder: &str,
     names: &[&str],
-) -> Result<Vec<Vec<u8>>, Refusal> {
+) -> Result<Vec<Vec<u8>>, Refusal>
+    ensures all { IfOk result (λ images. length images.items ≡ length names.now) }
+    ensures read { IfOk result (λ images. S.uses devices.new ≡ S.uses devices.old ++ images_read folder.now (map (λ name. name.now) names.now) (map (λ image. image.items) images.items)) }
+    ensures uncalled { S.calls devices.new ≡ S.calls devices.old }
+    ensures kept { S.held devices.new ≡ S.held devices.old }
+{
     let mut images = Vec::new(rt.alloc());
     for name in names {
-        push_image(rt, folder, name, &mut images)?;
+        let image = read_image(rt, devices, folder, name)?;
+        if images.push(image).is_err() {
+            return Err(Refusal::Memory);
+        }
     }
     Ok(images)
 }
 
 /// What is formatted: the topology, and the image of each node.
-pub(crate) fn read_network<'a, R: Files + AllocGlobal>(
+pub(crate) fn read_network<'a, R: Files + AllocGlobal, S: Devices>(
     rt: &R,
+    devices: &mut S,
     text: &'a [u8],
     folder: &str,
-) -> Result<(Named<'a>, Vec<Vec<u8>>), Refusal> {
+) -> Result<(Named<'a>, Vec<Vec<u8>>), Refusal>
+    ensures topology { IfOk result (λ found. read_text text.now ≡ Ok found.0.topology) }
+    ensures all { IfOk result (λ found. length found.1.items ≡ length (node_names text.now)) }
+    ensures read { IfOk result (λ found. S.uses devices.new ≡ S.uses devices.old ++ images_read folder.now (node_names text.now) (map (λ image. image.items) found.1.items)) }
+    ensures uncalled { S.calls devices.new ≡ S.calls devices.old }
+    ensures kept { S.held devices.new ≡ S.held devices.old }
+{
     let named = Topology::read_named(rt.alloc(), text)?;
-    let images = read_images(rt, folder, named.names.as_slice())?;
+    let images = read_images(rt, devices, folder, named.names.as_slice())?;
     Ok((named, images))
 }
 
@@ -130,24 +156,29 @@ fn check_named<O: Write, E: Write>(
     out: &mut O,
     err: &mut E,
 ) -> u8
-    ensures { result ≤ 1 }
+    ensures few { result ≤ 1 }
+    ensures fit { result ≡ 0 → IsSome (start_of named.now.topology (map (λ image. image.items) images.now)) }
+    ensures printed { result ≡ 0 → Appends (O.contents out.old) (O.contents out.new) (topology_said json named.now.topology) }
 {
     let _rules = named.topology.pages();
     check_on(alloc, &named.topology, images, json, out, err)
 }
 
 /// `tpnet check`, where the topology's text was read.
-fn check_text<R: Files + AllocGlobal, O: Write, E: Write>(
+fn check_text<R: Files + AllocGlobal, S: Devices, O: Write, E: Write>(
     rt: &R,
+    devices: &mut S,
     text: &[u8],
     folder: &str,
     json: bool,
     out: &mut O,
     err: &mut E,
 ) -> u8
-    ensures { result ≤ 1 }
+    ensures few { result ≤ 1 }
+    ensures uncalled { S.calls devices.new ≡ S.calls devices.old }
+    ensures done { result ≡ 0 → CheckedText json text.now folder.now (S.uses devices.old) (S.uses devices.new) (O.contents out.old) (O.contents out.new) }
 {
-    match read_network(rt, text, folder) {
+    match read_network(rt, devices, text, folder) {
         Ok((named, images)) => check_named(rt.alloc(), &named, images.as_slice(), json, out, err),
         Err(refusal) => refuse(err, refusal),
     }
@@ -155,115 +186,134 @@ fn check_text<R: Files + AllocGlobal, O: Write, E: Write>(
 
 /// `tpnet check`, on files. Nothing is written.
 #[inline(never)]
-pub fn check_file<R: Files + AllocGlobal, O: Write, E: Write>(
+pub fn check_file<R: Files + AllocGlobal, S: Devices, O: Write, E: Write>(
     rt: &R,
+    devices: &mut S,
     topology: &str,
     folder: &str,
     json: bool,
     out: &mut O,
     err: &mut E,
 ) -> u8
-    ensures { result ≤ 1 }
+    ensures few { result ≤ 1 }
+    ensures uncalled { S.calls devices.new ≡ S.calls devices.old }
+    ensures done { result ≡ 0 → Checked json topology.now folder.now (S.uses devices.old) (S.uses devices.new) (O.contents out.old) (O.contents out.new) }
 {
-    match read_source(rt, topology) {
-        Ok(text) => check_text(rt, text.as_slice(), folder, json, out, err),
+    match read_source(rt, devices, topology) {
+        Ok(text) => check_text(rt, devices, text.as_slice(), folder, json, out, err),
         Err(refusal) => refuse(err, refusal),
     }
 }
 
-/// Shows a view of a device's file, which stays as it is, with what maps say of addresses.
-fn view_mapped<R: Files<File = F> + AllocGlobal, F: FileExt + OpenFile + Drop, O: Write, E: Write>(
+/// Shows a view of a device's file, which stays as it is, with what maps say of addresses. `folder` is where they were read.
+fn view_mapped<R: AllocGlobal, S: Devices<Device = D>, D: Disk + Drop, O: Write, E: Write>(
     rt: &R,
+    devices: &mut S,
     device: &str,
     view: View,
+    folder: &Option<String>,
     maps: &NodeMaps<'_>,
     out: &mut O,
     err: &mut E,
 ) -> u8
-    ensures { result ≤ 2 }
+    requires unnamed { folder.now ≡ None → maps_seen maps.now ≡ no_maps }
+    ensures few { result ≤ 2 }
+    ensures uncalled { S.calls devices.new ≡ S.calls devices.old }
+    ensures used { WasRefused (S.uses devices.old) (S.uses devices.new) (O.contents out.old) (O.contents out.new) result ⊎ LooksAtOne device.now (S.uses devices.old) (S.uses devices.new) (ViewedBy D.keeps view folder.now (O.contents out.old) (O.contents out.new) result) }
 {
-    match disk_to_read(rt, device) {
-        Ok(mut disk) => view_on(rt.alloc(), &mut disk, view, maps, out, err),
-        Err(refusal) => refuse(err, refusal),
-    }
-}
-
-/// Shows a view of a device's file, with what the texts of maps say of addresses.
-fn view_with_texts<
-    R: Files<File = F> + AllocGlobal,
-    F: FileExt + OpenFile + Drop,
-    O: Write,
-    E: Write,
->(rt: &R, device: &str, view: View, texts: &MapTexts, out: &mut O, err: &mut E) -> u8
-    ensures { result ≤ 2 }
-{
-    match read_maps(rt.alloc(), texts.own.as_slice(), texts.all.as_slice()) {
-        Ok(maps) => view_mapped(rt, device, view, &maps, out, err),
-        Err(refusal) => refuse(err, refusal),
-    }
+    let mut disk = match devices.look(device) {
+        Ok(disk) => disk,
+        Err(refusal) => return refuse(err, refusal),
+    };
+    let status = view_on(rt.alloc(), &mut disk, view, maps, out, err);
+    devices.leave(disk);
+    status
 }
 
 /// `tpnet waits`, `node`, `image`, `journal` and `port`, on a device's file, which stays as it is. Maps are read first, from a folder if one
 /// is named.
 #[inline(never)]
 pub fn view_file<
-    R: Files<File = F> + AllocGlobal,
-    F: FileExt + OpenFile + Drop,
+    R: Files + AllocGlobal,
+    S: Devices<Device = D>,
+    D: Disk + Drop,
     O: Write,
     E: Write,
->(rt: &R, device: &str, view: View, maps: Option<&str>, out: &mut O, err: &mut E) -> u8
-    ensures { result ≤ 2 }
+>(
+    rt: &R,
+    devices: &mut S,
+    device: &str,
+    view: View,
+    folder: &Option<String>,
+    out: &mut O,
+    err: &mut E,
+) -> u8
+    ensures few { result ≤ 2 }
+    ensures uncalled { S.calls devices.new ≡ S.calls devices.old }
+    ensures used { WasRefused (S.uses devices.old) (S.uses devices.new) (O.contents out.old) (O.contents out.new) result ⊎ LooksAtOne device.now (S.uses devices.old) (S.uses devices.new) (ViewedBy D.keeps view folder.now (O.contents out.old) (O.contents out.new) result) }
 {
-    match read_texts(rt, maps) {
-        Ok(texts) => view_with_texts(rt, device, view, &texts, out, err),
+    let texts = match read_texts(rt, folder) {
+        Ok(texts) => texts,
+        Err(refusal) => return refuse(err, refusal),
+    };
+    match read_maps(rt.alloc(), texts.own.as_slice(), texts.all.as_slice()) {
+        Ok(maps) => view_mapped(rt, devices, device, view, folder, &maps, out, err),
         Err(refusal) => refuse(err, refusal),
     }
 }
 
-/// Traces a node of a device's file, which stays as it is, with what maps say of addresses.
-fn trace_mapped<R: Files<File = F> + AllocGlobal, F: FileExt + OpenFile + Drop, O: Write, E: Write>(
+/// Traces a node of a device's file, which stays as it is, with what maps say of addresses. `folder` is where they were read.
+fn trace_mapped<R: AllocGlobal, S: Devices<Device = D>, D: Disk + Drop, O: Write, E: Write>(
     rt: &R,
+    devices: &mut S,
     device: &str,
     part: TracePart,
+    folder: &Option<String>,
     maps: &NodeMaps<'_>,
     out: &mut O,
     err: &mut E,
 ) -> u8
-    ensures { result ≤ 2 }
+    requires unnamed { folder.now ≡ None → maps_seen maps.now ≡ no_maps }
+    ensures few { result ≤ 2 }
+    ensures uncalled { S.calls devices.new ≡ S.calls devices.old }
+    ensures used { WasRefused (S.uses devices.old) (S.uses devices.new) (O.contents out.old) (O.contents out.new) result ⊎ LooksAtOne device.now (S.uses devices.old) (S.uses devices.new) (TracedBy D.keeps part folder.now (O.contents out.old) (O.contents out.new) result) }
 {
-    match disk_to_read(rt, device) {
-        Ok(mut disk) => trace_device_on(rt.alloc(), &mut disk, part, maps, out, err),
-        Err(refusal) => refuse(err, refusal),
-    }
-}
-
-/// Traces a node of a device's file, with what the texts of maps say of addresses.
-fn trace_with_texts<
-    R: Files<File = F> + AllocGlobal,
-    F: FileExt + OpenFile + Drop,
-    O: Write,
-    E: Write,
->(rt: &R, device: &str, part: TracePart, texts: &MapTexts, out: &mut O, err: &mut E) -> u8
-    ensures { result ≤ 2 }
-{
-    match read_maps(rt.alloc(), texts.own.as_slice(), texts.all.as_slice()) {
-        Ok(maps) => trace_mapped(rt, device, part, &maps, out, err),
-        Err(refusal) => refuse(err, refusal),
-    }
+    let mut disk = match devices.look(device) {
+        Ok(disk) => disk,
+        Err(refusal) => return refuse(err, refusal),
+    };
+    let status = trace_device_on(rt.alloc(), &mut disk, part, maps, out, err);
+    devices.leave(disk);
+    status
 }
 
 /// `tpnet trace`, on a device's file, which stays as it is. Maps are read first, from a folder if one is named.
 #[inline(never)]
 pub fn trace_device_file<
-    R: Files<File = F> + AllocGlobal,
-    F: FileExt + OpenFile + Drop,
+    R: Files + AllocGlobal,
+    S: Devices<Device = D>,
+    D: Disk + Drop,
     O: Write,
     E: Write,
->(rt: &R, device: &str, part: TracePart, maps: Option<&str>, out: &mut O, err: &mut E) -> u8
-    ensures { result ≤ 2 }
+>(
+    rt: &R,
+    devices: &mut S,
+    device: &str,
+    part: TracePart,
+    folder: &Option<String>,
+    out: &mut O,
+    err: &mut E,
+) -> u8
+    ensures few { result ≤ 2 }
+    ensures uncalled { S.calls devices.new ≡ S.calls devices.old }
+    ensures used { WasRefused (S.uses devices.old) (S.uses devices.new) (O.contents out.old) (O.contents out.new) result ⊎ LooksAtOne device.now (S.uses devices.old) (S.uses devices.new) (TracedBy D.keeps part folder.now (O.contents out.old) (O.contents out.new) result) }
 {
-    match read_texts(rt, maps) {
-        Ok(texts) => trace_with_texts(rt, device, part, &texts, out, err),
+    let texts = match read_texts(rt, folder) {
+        Ok(texts) => texts,
+        Err(refusal) => return refuse(err, refusal),
+    };
+    match read_maps(rt.alloc(), texts.own.as_slice(), texts.all.as_slice()) {
+        Ok(maps) => trace_mapped(rt, devices, device, part, folder, &maps, out, err),
         Err(refusal) => refuse(err, refusal),
     }
 }
@@ -304,33 +354,46 @@ pub(crate) fn disk_to_read<R: Files<File = F>, F: FileExt + OpenFile + Drop>(
 /// `tpnet recover`, on a device's file, which stays as it is.
 #[inline(never)]
 pub fn recover_file<
-    R: Files<File = F> + AllocGlobal + Threads + Sync,
-    F: FileExt + OpenFile + Drop,
+    R: AllocGlobal + Threads + Sync,
+    S: Devices<Device = D>,
+    D: Disk + Drop,
     O: Write,
     E: Write,
->(rt: &R, device: &str, workers: u8, out: &mut O, err: &mut E) -> u8
-    ensures { result ≤ 1 }
+>(rt: &R, devices: &mut S, device: &str, workers: u8, out: &mut O, err: &mut E) -> u8
+    ensures few { result ≤ 1 }
+    ensures uncalled { S.calls devices.new ≡ S.calls devices.old }
+    ensures used { WasRefused (S.uses devices.old) (S.uses devices.new) (O.contents out.old) (O.contents out.new) result ⊎ LooksAtOne device.now (S.uses devices.old) (S.uses devices.new) (Shows D.keeps recovered (O.contents out.old) (O.contents out.new) result) }
 {
-    match disk_to_read(rt, device) {
-        Ok(mut disk) => recover_on(rt, rt.alloc(), &mut disk, workers, out, err),
-        Err(refusal) => refuse(err, refusal),
-    }
+    let mut disk = match devices.look(device) {
+        Ok(disk) => disk,
+        Err(refusal) => return refuse(err, refusal),
+    };
+    let status = recover_on(rt, rt.alloc(), &mut disk, workers, out, err);
+    devices.leave(disk);
+    status
 }
 
 /// `tpnet show`, on a device's file, which stays as it is.
 #[inline(never)]
-pub fn show_file<
-    R: Files<File = F> + AllocGlobal,
-    F: FileExt + OpenFile + Drop,
-    O: Write,
-    E: Write,
->(rt: &R, device: &str, json: bool, out: &mut O, err: &mut E) -> u8
-    ensures { result ≤ 1 }
+pub fn show_file<R: AllocGlobal, S: Devices<Device = D>, D: Disk + Drop, O: Write, E: Write>(
+    rt: &R,
+    devices: &mut S,
+    device: &str,
+    json: bool,
+    out: &mut O,
+    err: &mut E,
+) -> u8
+    ensures few { result ≤ 1 }
+    ensures uncalled { S.calls devices.new ≡ S.calls devices.old }
+    ensures used { WasRefused (S.uses devices.old) (S.uses devices.new) (O.contents out.old) (O.contents out.new) result ⊎ LooksAtOne device.now (S.uses devices.old) (S.uses devices.new) (Shows D.keeps (shown json) (O.contents out.old) (O.contents out.new) result) }
 {
-    match disk_to_read(rt, device) {
-        Ok(mut disk) => show_on(rt.alloc(), &mut disk, json, out, err),
-        Err(refusal) => refuse(err, refusal),
-    }
+    let mut disk = match devices.look(device) {
+        Ok(disk) => disk,
+        Err(refusal) => return refuse(err, refusal),
+    };
+    let status = show_on(rt.alloc(), &mut disk, json, out, err);
+    devices.leave(disk);
+    status
 }
 
 /// The time that a look prints: none if it is the only one.
@@ -343,14 +406,9 @@ fn clock_of<W: Watch>(watch: &mut W, every: Option<u32>) -> Option<u64> {
 
 /// A look at a device's file, which stays as it is. Answers what was seen, or the status.
 #[inline(never)]
-fn look_file<
-    R: Files<File = F> + AllocGlobal,
-    F: FileExt + OpenFile + Drop,
-    W: Watch,
-    O: Write,
-    E: Write,
->(
+fn look_file<R: AllocGlobal, S: Devices<Device = D>, D: Disk + Drop, W: Watch, O: Write, E: Write>(
     rt: &R,
+    devices: &mut S,
     watch: &mut W,
     device: &str,
     every: Option<u32>,
@@ -359,36 +417,44 @@ fn look_file<
     out: &mut O,
     err: &mut E,
 ) -> Result<Seen, u8>
-    ensures { IfErr result (λ status. status ≡ 1) }
+    ensures status { IfErr result (λ status. status ≡ 1) }
+    ensures uncalled { S.calls devices.new ≡ S.calls devices.old }
+    ensures told { IfOk result (λ seen. LooksAtOne device.now (S.uses devices.old) (S.uses devices.new) (Told D.keeps json before.now (O.contents out.old) (O.contents out.new) seen)) }
+    ensures refused { IfErr result (λ status. WasRefused (S.uses devices.old) (S.uses devices.new) (O.contents out.old) (O.contents out.new) status ⊎ (status ≡ 1) × LooksAtOne device.now (S.uses devices.old) (S.uses devices.new) (Untold D.keeps json before.now (O.contents out.old) (O.contents out.new))) }
 {
     let (held, at) = (watch.is_held(device), watch.now());
     let clock = clock_of(watch, every);
-    match disk_to_read(rt, device) {
-        Ok(mut disk) => status_on(
-            rt.alloc(),
-            &mut disk,
-            held,
-            at,
-            clock,
-            before,
-            json,
-            out,
-            err,
-        ),
-        Err(refusal) => Err(refuse(err, refusal)),
-    }
+    let mut disk = match devices.look(device) {
+        Ok(disk) => disk,
+        Err(refusal) => return Err(refuse(err, refusal)),
+    };
+    let told = status_on(
+        rt.alloc(),
+        &mut disk,
+        held,
+        at,
+        clock,
+        before,
+        json,
+        out,
+        err,
+    );
+    devices.leave(disk);
+    told
 }
 
 /// `tpnet status`, on a device's file, which stays as it is: one look, or one each `seconds` for as long as a further one is wanted
 /// and none is refused.
 pub fn status_file<
-    R: Files<File = F> + AllocGlobal,
-    F: FileExt + OpenFile + Drop,
+    R: AllocGlobal,
+    S: Devices<Device = D>,
+    D: Disk + Drop,
     W: Watch,
     O: Write,
     E: Write,
 >(
     rt: &R,
+    devices: &mut S,
     watch: &mut W,
     device: &str,
     every: Option<u32>,
@@ -396,19 +462,24 @@ pub fn status_file<
     out: &mut O,
     err: &mut E,
 ) -> u8
-    ensures { result ≤ 1 }
+    ensures few { result ≤ 1 }
+    ensures uncalled { S.calls devices.new ≡ S.calls devices.old }
+    ensures used { HasStatus D.keeps json device.now (S.uses devices.old) (S.uses devices.new) (O.contents out.old) (O.contents out.new) result }
 {
-    let mut before = None;
-    for _ in 0..u64::MAX {
-        let seen = match look_file(rt, watch, device, every, &before, json, out, err) {
-            Ok(seen) => seen,
-            Err(status) => return status,
-        };
-        before = Some(seen);
+    let mut before = match look_file(rt, devices, watch, device, every, &None, json, out, err) {
+        Ok(seen) => Some(seen),
+        Err(status) => return status,
+    };
+    'looks: for _ in 0..u64::MAX {
         match every {
             Some(seconds) if watch.pause(seconds) => {}
             _ => return 0,
         }
+        let seen = match look_file(rt, devices, watch, device, every, &before, json, out, err) {
+            Ok(seen) => seen,
+            Err(status) => return status,
+        };
+        before = Some(seen);
     }
     0
 }

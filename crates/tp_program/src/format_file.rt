@@ -1,30 +1,26 @@
 //! `tpnet format`, on files.
 
-ghost use Rattle.std.specs.Prelude.{◌≡◌, ◌≤◌, true, Some, IfOk, IfSome, string_bytes};
-ghost use Rattle.tp_model.specs.Device.{areas_end};
-ghost use Rattle.tp_model.specs.Head.{areas_of_length};
-ghost use Rattle.tp_model.specs.Topology.{is_topology};
-ghost use Rattle.tp_words.specs.declared.args.TheConstants.{MAX_AREA};
-ghost use Rattle.tp_program.specs.Devices.{MadeAtMost, path_held};
+ghost use Rattle.std.specs.Prelude.{◌≡◌, ◌≤◌, ◌++◌, ◌∷◌, [], true, Some, IfOk, IfSome, map, string_bytes};
+ghost use Rattle.tp_program.specs.Lower.{areas_end, areas_of_length, is_topology, MAX_AREA};
+ghost use Rattle.tp_program.specs.Devices.{Begins, MadeAtMost, path_held};
+ghost use Rattle.tp_program.specs.Uses.{FormattedFile, FormattedNetwork, FormattedText};
 
 use crate::devices::{Devices, Made};
 use crate::files::{image_path, read_network, read_source};
-use crate::folders::sync_folder;
 use crate::formatting::format_on;
 use crate::in_use::{changed, is_busy};
-use std::fs::{Files, OpenFile};
+use std::fs::Files;
 use std::io;
 use std::io::Write;
-use std::os::unix::fs::FileExt;
 use tp_area::{head_length, version_for};
-use tp_disk::{Disk, NewDisk};
+use tp_disk::Disk;
 use tp_model::HeadVersion;
 use tp_net::{Named, Topology};
 use tp_stream_files::is_one_file;
 use tp_views::{Refusal, is_openable, refuse, wanted_area};
 use tp_words::{NewDevice, Shown};
 
-/// The path of the first image whose file is the device's.
+/// Gives the path of the first image whose file is the device's; `None` if there is none.
 fn image_replaced<R: Files + AllocGlobal>(
     rt: &R,
     new: &NewDevice,
@@ -39,7 +35,7 @@ fn image_replaced<R: Files + AllocGlobal>(
     Ok(None)
 }
 
-/// Says that the device would replace a file that it is made from. Answers the status. A failed write is let go.
+/// Says that the device would replace a file that it is made from. Answers the status. Ignores a failed write.
 fn refuse_source<E: Write>(err: &mut E, device: &str, what: &str, path: &str) -> u8
     ensures { result ≡ 2 }
 {
@@ -51,14 +47,15 @@ fn refuse_source<E: Write>(err: &mut E, device: &str, what: &str, path: &str) ->
     2
 }
 
-/// Says which of the files that a device is made from it would replace. Answers the status; none where each stays.
+/// Refuses a device that would replace a file that it is made from, and says which. Answers the status; `None` if it replaces none of them.
 fn refuse_sources<R: Files + AllocGlobal, E: Write>(
     rt: &R,
     new: &NewDevice,
     names: &[&str],
     err: &mut E,
 ) -> Option<u8>
-    ensures { IfSome result (λ status. status ≤ 2) }
+    ensures few { IfSome result (λ status. status ≤ 2) }
+    ensures refused { IfSome result (λ status. 1 ≤ status) }
 {
     let (device, topology) = (new.device.as_str(), new.topology.as_str());
     if is_one_file(rt, device, topology) {
@@ -71,7 +68,7 @@ fn refuse_sources<R: Files + AllocGlobal, E: Write>(
     }
 }
 
-/// Why a device wasn't made: another process has it where it came to the path meanwhile.
+/// Gives why a device wasn't made, for an error of the system. If another file came to its path meanwhile, another process has it.
 fn making_refusal(error: &io::Error) -> Refusal {
     match error.kind() {
         io::ErrorKind::AlreadyExists => Refusal::DeviceExists,
@@ -80,7 +77,7 @@ fn making_refusal(error: &io::Error) -> Refusal {
     }
 }
 
-/// How many bytes a device has, with a head of a version and two areas of `area` bytes.
+/// How many bytes a device has, with a head of this version and two areas of `area` bytes.
 fn device_length(version: HeadVersion, area: u64) -> u64
     requires { area ≤ MAX_AREA }
     ensures { result ≡ areas_end (areas_of_length version area) }
@@ -88,33 +85,21 @@ fn device_length(version: HeadVersion, area: u64) -> u64
     head_length(version) as u64 + 2 * area
 }
 
-/// The device with room for the head of its topology and two areas, in the file that is held, which stays as it was until the first call of it.
-/// Where another file stands there by now, that is another's.
-fn new_disk<R: Files<File = F>, F: FileExt + OpenFile + Drop, S: Devices>(
-    rt: &R,
-    devices: &S,
-    new: &NewDevice,
-    topology: &Topology,
-) -> io::Result<NewDisk<F>>
-    requires area { IfSome new.now.area (λ area. area ≤ MAX_AREA) }
-    requires held { S.held devices.now ≡ Some (string_bytes new.now.device) }
+/// How many bytes the device has that is asked for: those of its head, for this topology, and of two areas.
+fn size_of(new: &NewDevice, topology: &Topology) -> u64
+    requires { IfSome new.now.area (λ area. area ≤ MAX_AREA) }
 {
-    let area = wanted_area(topology, new.area);
-    let size = device_length(version_for(topology), area);
-    let path = new.device.as_str();
-    let disk = NewDisk::create_over(rt, path, size)?;
-    if !devices.is_kept(path) {
-        return Err(changed());
-    }
-    Ok(disk)
+    device_length(version_for(topology), wanted_area(topology, new.area))
 }
 
-/// Makes the file of a device and holds it. None is made where one is there already, unless it must be new.
+/// Makes the file of a device and holds it. If something is there already, it answers `None`; but if the device must be new, it fails with
+/// `AlreadyExists`.
 fn make_file<S: Devices>(devices: &mut S, new: &NewDevice) -> io::Result<Option<Made>>
     requires { S.held devices.old ≡ Some (string_bytes new.now.device) }
     ensures kept { S.held devices.new ≡ S.held devices.old }
     ensures made { IfOk result (λ made. IfSome made (λ made. path_held made.noted.told ≡ string_bytes new.now.device)) }
     ensures noted { MadeAtMost (string_bytes new.now.device) (S.calls devices.old) (S.calls devices.new) }
+    ensures unused { S.uses devices.new ≡ S.uses devices.old }
 {
     match devices.make(new.device.as_str()) {
         Ok(made) => Ok(Some(made)),
@@ -123,78 +108,48 @@ fn make_file<S: Devices>(devices: &mut S, new: &NewDevice) -> io::Result<Option<
     }
 }
 
-/// What the system said of the call by which a device failed.
-fn failure_of<F: FileExt + OpenFile + Drop>(disk: NewDisk<F>) -> io::Error {
-    match disk.into_raw().into_failure() {
-        Some(error) => error,
-        None => io::Error::from(io::ErrorKind::Other),
-    }
-}
-
-/// The device in an empty file that was made for it, once its name lasts and all its bytes are on the disk, 00.
-fn filled_disk<R: Files<File = F>, F: FileExt + OpenFile + Drop, S: Devices>(
-    rt: &R,
-    devices: &S,
-    new: &NewDevice,
-    topology: &Topology,
-) -> io::Result<NewDisk<F>>
-    requires area { IfSome new.now.area (λ area. area ≤ MAX_AREA) }
-    requires held { S.held devices.now ≡ Some (string_bytes new.now.device) }
-{
-    sync_folder(rt, new.device.as_str())?;
-    let mut disk = new_disk(rt, devices, new, topology)?;
-    match disk.sync() {
-        Ok(()) => Ok(disk),
-        Err(_) => Err(failure_of(disk)),
-    }
-}
-
-/// The device in an empty file that was made for it, which is filled, or removed where it can't be.
-fn disk_made<R: Files<File = F>, F: FileExt + OpenFile + Drop, S: Devices>(
-    rt: &R,
-    devices: &S,
+/// Gives the device in an empty file that was made for it, and fills the file. If that fails, the file is removed.
+fn disk_made<S: Devices<New = N>, N: Disk + Drop>(
+    devices: &mut S,
     new: &NewDevice,
     topology: &Topology,
     made: Made,
-) -> io::Result<NewDisk<F>>
+) -> io::Result<N>
     requires area { IfSome new.now.area (λ area. area ≤ MAX_AREA) }
-    requires held { S.held devices.now ≡ Some (string_bytes new.now.device) }
+    requires held { S.held devices.old ≡ Some (string_bytes new.now.device) }
     requires made { path_held made.noted.told ≡ string_bytes new.now.device }
+    ensures begun { IfOk result (λ disk. S.uses devices.new ≡ S.uses devices.old ++ Begins (string_bytes new.now.device) (N.state disk) ∷ []) }
+    ensures uncalled { S.calls devices.new ≡ S.calls devices.old }
 {
-    let disk = filled_disk(rt, devices, new, topology);
+    let disk = devices.fill(new.device.as_str(), size_of(new, topology));
     if disk.is_err() {
         devices.remove(new.device.as_str(), made);
     }
     disk
 }
 
-/// The device in a file that is made for it, and filled, or in one that is there, which stays as it was until the first call of it.
-fn disk_of<R: Files<File = F>, F: FileExt + OpenFile + Drop, S: Devices>(
-    rt: &R,
+/// Gives the device in a file that is made for it and filled. If a file is there already, it gives the device in that file, which stays as it was
+/// until the first call on it.
+fn disk_of<S: Devices<New = N>, N: Disk + Drop>(
     devices: &mut S,
     new: &NewDevice,
     topology: &Topology,
-) -> io::Result<NewDisk<F>>
+) -> io::Result<N>
     requires area { IfSome new.now.area (λ area. area ≤ MAX_AREA) }
     requires held { S.held devices.old ≡ Some (string_bytes new.now.device) }
-    ensures { MadeAtMost (string_bytes new.now.device) (S.calls devices.old) (S.calls devices.new) }
+    ensures made { MadeAtMost (string_bytes new.now.device) (S.calls devices.old) (S.calls devices.new) }
+    ensures begun { IfOk result (λ disk. S.uses devices.new ≡ S.uses devices.old ++ Begins (string_bytes new.now.device) (N.state disk) ∷ []) }
 {
     match make_file(devices, new)? {
-        Some(made) => disk_made(rt, devices, new, topology, made),
-        None => new_disk(rt, devices, new, topology),
+        Some(made) => disk_made(devices, new, topology, made),
+        None => devices.replace(new.device.as_str(), size_of(new, topology)),
     }
 }
 
-/// Formats the device of this network, which is held: where another file stands at its path by now, or one where there was none, that is
-/// another's. What the system said of a call that failed is put into `system`.
+/// Formats the device of this network, which is held. Refuses if its path has another file by now, since that one belongs to another process. If a
+/// call fails, what the system said goes into `system`.
 #[inline(never)]
-fn format_network<
-    R: Files<File = F> + AllocGlobal,
-    F: FileExt + OpenFile + Drop,
-    S: Devices,
-    O: Write,
-    E: Write,
->(
+fn format_network<R: Files + AllocGlobal, S: Devices<New = N>, N: Disk + Drop, O: Write, E: Write>(
     rt: &R,
     devices: &mut S,
     new: &NewDevice,
@@ -209,6 +164,7 @@ fn format_network<
     requires valid { is_topology topology.now ≡ true }
     ensures few { result ≤ 1 }
     ensures made { MadeAtMost (string_bytes new.now.device) (S.calls devices.old) (S.calls devices.new) }
+    ensures formatted { FormattedNetwork N.keeps (string_bytes new.now.device) new.now.area topology.now (map (λ image. image.items) images.now) (S.uses devices.old) (S.uses devices.new) (O.contents out.old) (O.contents out.new) result }
 {
     if !devices.is_kept(new.device.as_str()) {
         *system = Some(changed());
@@ -217,10 +173,10 @@ fn format_network<
     if !new.only_new && !is_openable(rt, new.device.as_str()) {
         return refuse(err, Refusal::DeviceFailed);
     }
-    match disk_of(rt, devices, new, topology) {
+    match disk_of(devices, new, topology) {
         Ok(mut disk) => {
             let status = format_on(rt.alloc(), &mut disk, topology, images, new.area, out, err);
-            *system = disk.into_raw().into_failure();
+            *system = devices.finish(disk);
             status
         }
         Err(error) => {
@@ -231,14 +187,8 @@ fn format_network<
     }
 }
 
-/// Formats the device of a topology that was read, and of the images of its nodes.
-fn format_named<
-    R: Files<File = F> + AllocGlobal,
-    F: FileExt + OpenFile + Drop,
-    S: Devices,
-    O: Write,
-    E: Write,
->(
+/// Formats a device of a topology that was read, from the images of its nodes. Refuses if it would replace a file that it is made from.
+fn format_named<R: Files + AllocGlobal, S: Devices<New = N>, N: Disk + Drop, O: Write, E: Write>(
     rt: &R,
     devices: &mut S,
     new: &NewDevice,
@@ -252,6 +202,7 @@ fn format_named<
     requires held { S.held devices.old ≡ Some (string_bytes new.now.device) }
     ensures few { result ≤ 2 }
     ensures made { MadeAtMost (string_bytes new.now.device) (S.calls devices.old) (S.calls devices.new) }
+    ensures formatted { FormattedNetwork N.keeps (string_bytes new.now.device) new.now.area named.now.topology (map (λ image. image.items) images.now) (S.uses devices.old) (S.uses devices.new) (O.contents out.old) (O.contents out.new) result }
 {
     if let Some(status) = refuse_sources(rt, new, named.names.as_slice(), err) {
         return status;
@@ -260,14 +211,8 @@ fn format_named<
     format_network(rt, devices, new, &named.topology, images, system, out, err)
 }
 
-/// Formats the device of a topology's text that was read.
-fn format_text<
-    R: Files<File = F> + AllocGlobal,
-    F: FileExt + OpenFile + Drop,
-    S: Devices,
-    O: Write,
-    E: Write,
->(
+/// Formats a device by the text of a topology. Reads the images of its nodes first.
+fn format_text<R: Files + AllocGlobal, S: Devices<New = N>, N: Disk + Drop, O: Write, E: Write>(
     rt: &R,
     devices: &mut S,
     new: &NewDevice,
@@ -280,8 +225,9 @@ fn format_text<
     requires held { S.held devices.old ≡ Some (string_bytes new.now.device) }
     ensures few { result ≤ 2 }
     ensures made { MadeAtMost (string_bytes new.now.device) (S.calls devices.old) (S.calls devices.new) }
+    ensures formatted { FormattedText N.keeps text.now (string_bytes new.now.images) (string_bytes new.now.device) new.now.area (S.uses devices.old) (S.uses devices.new) (O.contents out.old) (O.contents out.new) result }
 {
-    match read_network(rt, text, new.images.as_str()) {
+    match read_network(rt, devices, text, new.images.as_str()) {
         Ok((named, images)) => {
             format_named(
                 rt,
@@ -298,13 +244,13 @@ fn format_text<
     }
 }
 
-/// `tpnet format`, on files, where the device is held. A file that is there stays as it is until nothing is left to refuse; the topology's
-/// and the images' files always do.
+/// `tpnet format`, on files, if the device is held. A file that is there stays as it is until nothing is left to refuse. The files of the topology
+/// and the images are never changed.
 #[inline(never)]
 pub(crate) fn format_file<
-    R: Files<File = F> + AllocGlobal,
-    F: FileExt + OpenFile + Drop,
-    S: Devices,
+    R: Files + AllocGlobal,
+    S: Devices<New = N>,
+    N: Disk + Drop,
     O: Write,
     E: Write,
 >(
@@ -319,8 +265,9 @@ pub(crate) fn format_file<
     requires held { S.held devices.old ≡ Some (string_bytes new.now.device) }
     ensures few { result ≤ 2 }
     ensures made { MadeAtMost (string_bytes new.now.device) (S.calls devices.old) (S.calls devices.new) }
+    ensures formatted { FormattedFile N.keeps new.now (S.uses devices.old) (S.uses devices.new) (O.contents out.old) (O.contents out.new) result }
 {
-    match read_source(rt, new.topology.as_str()) {
+    match read_source(rt, devices, new.topology.as_str()) {
         Ok(text) => format_text(rt, devices, new, text.as_slice(), system, out, err),
         Err(refusal) => refuse(err, refusal),
     }

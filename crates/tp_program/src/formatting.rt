@@ -1,15 +1,7 @@
 //! `tpnet format`, over any device.
 
 ghost use Rattle.std.specs.Prelude.{◌≡◌, ◌⊎◌, ◌≤◌, true, false, None, map, IsErr, OnOk};
-ghost use Rattle.std.specs.Io.KnownBytes.{Appends};
-ghost use Rattle.tp_model.specs.Device.{fits_device};
-ghost use Rattle.tp_model.specs.DiskHistory.{LeavesOnly};
-ghost use Rattle.tp_model.specs.Format.{start_of};
-ghost use Rattle.tp_model.specs.Head.{areas_of_length, version_for};
-ghost use Rattle.tp_model.specs.Topology.{is_topology};
-ghost use Rattle.tp_area.specs.Formatting.{Formatted, IsOldOrNew};
-ghost use Rattle.tp_views.specs.Checked.{wanted_area};
-ghost use Rattle.tp_views.specs.Front.{AppendsFront};
+ghost use Rattle.tp_program.specs.Lower.{Appends, fits_device, LeavesOnly, start_of, areas_of_length, version_for, is_topology, Formatted, IsOldOrNew, wanted_area, AppendsFront};
 ghost use Rattle.tp_program.specs.Formats.{formatted_text};
 
 use std::alloc::Global;
@@ -43,10 +35,10 @@ fn make<D: Disk, O: Write>(
     put(out, b"formatted\n")
 }
 
-/// `tpnet format`, on a device of the size that is asked for, whose areas have as many bytes as are asked for, or the default. Answers the program's status: 0 if the device is formatted,
-/// all of it synced, and that is printed; else 1. If the images don't fit the topology, or the device is too small, nothing
-/// has changed. Nothing is printed before the device is formatted. Whatever a crash on the way leaves is old outside the areas, or has both areas
-/// complete.
+/// `tpnet format`, on a device of the size that is asked for. Its areas have as many bytes as are asked for, or the default. Answers the program's
+/// status: 0 if the device is formatted, all of it is synced, and that is printed; else 1. If the images don't fit the topology, or the device is too
+/// small, nothing has changed. Nothing is printed before the device is formatted. If a crash ends the call early, what is outside the areas is as
+/// before, or both areas are complete.
 pub fn format_on<D: Disk, O: Write, E: Write>(
     alloc: Global,
     disk: &mut D,

@@ -7,8 +7,7 @@ use std::io;
 use std::io::{ErrorKind, Write};
 use tp_views::{Refusal, refuse};
 
-/// Refuses what a command line asks for, since another process holds the device; if `explains`, says more of it. Answers the status. A failed write
-/// is ignored.
+/// Refuses a command because another process holds the device; if `explains` is true, says more of that. Answers the status. Ignores a failed write.
 pub fn refuse_in_use<E: Write>(explains: bool, err: &mut E) -> u8
     ensures { result ≡ 1 }
 {
@@ -22,19 +21,19 @@ pub fn refuse_in_use<E: Write>(explains: bool, err: &mut E) -> u8
     status
 }
 
-/// That another file is at the device's path than the one that was there as the device was asked for.
+/// Gives the error that says that another file is at the device's path than when it was asked for.
 pub(crate) fn changed() -> io::Error
     ensures { error_kind result ≡ ErrorKind.ResourceBusy }
 {
     io::Error::from(ErrorKind::ResourceBusy)
 }
 
-/// Whether the system, or [`changed`], says that something is in use.
+/// Whether an error of the system, or [`changed`], says that something is in use.
 pub(crate) fn is_busy(error: &io::Error) -> bool {
     error.kind() == ErrorKind::ResourceBusy
 }
 
-/// Says more of a refusal since another file is at the device's path. A failed write is dropped.
+/// Says more of a refusal because another file is at the device's path. Ignores a failed write.
 pub(crate) fn explain_changed<E: Write>(err: &mut E) {
     let _ = write!(
         err,

@@ -1,4 +1,4 @@
-//! What the program does for the words of its command line: the commands that write a device, over any device, and all of them on files.
+//! What the program does for the words of its command line: commands that write a device, over any device, and all commands on files.
 #![tactic(auto)]
 
 mod asking;
@@ -33,12 +33,14 @@ mod watching;
 
 pub use asking::{Unasked, Unmade};
 pub use backing_up::backup_on;
+pub use backup_files::Undone;
 pub use compacting::compact_on;
 pub use devices::{Devices, FileDevices, Made};
 pub use formatting::format_on;
 pub use in_use::refuse_in_use;
 pub use locks::{Held, InUse, Locks};
-pub use program::{answer_locking, answer_over};
+pub use program::answer_over;
+pub use rights::Rights;
 pub use running::run_on;
 pub use stop_file::StopFault;
 pub use streaming::{FilesFault, Streamed, stream_on};

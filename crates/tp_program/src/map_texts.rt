@@ -1,27 +1,32 @@
 //! The texts of the maps of a device's nodes, from the files of a folder.
 
+ghost use Rattle.std.specs.Prelude.{◌≡◌, [], IfOk, None};
+
 use crate::files::read_file;
 use std::alloc::Global;
 use std::fs::Files;
 use tp_model::limits::MAX_NODES;
 use tp_views::{Refusal, is_regular, map_path};
 
-/// The texts of maps: each node's own at its number, and the one for all nodes that have none of their own. A missing map is empty.
+/// The texts of maps: each node's own at its number, and one for all nodes without their own. The text of a missing map is empty.
 #[derive(Drop)]
 pub(crate) struct MapTexts {
     pub(crate) own: Vec<Vec<u8>>,
     pub(crate) all: Vec<u8>,
 }
 
-/// No map.
-fn no_texts(alloc: Global) -> MapTexts {
+/// Gives the texts of no maps.
+fn no_texts(alloc: Global) -> MapTexts
+    ensures own { result.own.items ≡ [] }
+    ensures all { result.all.items ≡ [] }
+{
     MapTexts {
         own: Vec::new(alloc),
         all: Vec::new(alloc),
     }
 }
 
-/// Reads a map of a folder, if it is there.
+/// Reads a map of a folder; gives `None` if it isn't there.
 fn read_there<R: Files + AllocGlobal>(
     rt: &R,
     folder: &str,
@@ -53,7 +58,7 @@ fn read_noted<R: Files + AllocGlobal>(
     }
 }
 
-/// Reads the maps of a folder. Refuses a folder without any.
+/// Reads the maps of a folder. Fails if the folder has none.
 fn read_folder<R: Files + AllocGlobal>(rt: &R, folder: &str) -> Result<MapTexts, Refusal> {
     let mut texts = no_texts(rt.alloc());
     let mut is_there = false;
@@ -71,13 +76,16 @@ fn read_folder<R: Files + AllocGlobal>(rt: &R, folder: &str) -> Result<MapTexts,
     }
 }
 
-/// Reads the maps of a folder, if one is named.
+/// Reads the maps of a folder, if one is named; else gives the texts of no maps.
 pub(crate) fn read_texts<R: Files + AllocGlobal>(
     rt: &R,
-    folder: Option<&str>,
-) -> Result<MapTexts, Refusal> {
+    folder: &Option<String>,
+) -> Result<MapTexts, Refusal>
+    ensures own { folder.now ≡ None → IfOk result (λ texts. texts.own.items ≡ []) }
+    ensures all { folder.now ≡ None → IfOk result (λ texts. texts.all.items ≡ []) }
+{
     match folder {
-        Some(folder) => read_folder(rt, folder),
+        Some(folder) => read_folder(rt, folder.as_str()),
         None => Ok(no_texts(rt.alloc())),
     }
 }

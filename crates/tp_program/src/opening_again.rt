@@ -1,11 +1,11 @@
-//! Whether a device's file opens now that was refused before.
+//! Whether a device's file that was refused opens now.
 
 use std::alloc::AllocError;
 use std::fs::{Files, OpenFile};
 use std::os::unix::fs::FileExt;
 use tp_views::push_opening;
 
-/// Opens a device's file again, and says why it wasn't opened, if it doesn't open now either. Answers whether it opens.
+/// Opens a device's file again. If that fails, it says why. Answers whether it opens.
 pub(crate) fn opens<R: Files<File = F> + AllocGlobal, F: FileExt + OpenFile + Drop>(
     rt: &R,
     text: &mut String,
@@ -17,7 +17,7 @@ pub(crate) fn opens<R: Files<File = F> + AllocGlobal, F: FileExt + OpenFile + Dr
     }
 }
 
-/// Opens a device's file again, and says why it wasn't opened, if it doesn't open now either.
+/// Opens a device's file again. If that fails, it says why.
 pub(crate) fn push_unopened<R: Files<File = F> + AllocGlobal, F: FileExt + OpenFile + Drop>(
     rt: &R,
     text: &mut String,

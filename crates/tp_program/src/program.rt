@@ -1,22 +1,19 @@
 //! What the program does for the words of its command line.
 
 ghost use Rattle.std.specs.Prelude.{◌≡◌, ◌≤◌, ◌++◌, codes, is_ok, true, OnOk};
-ghost use Rattle.tp_run.specs.Ran.{History};
-ghost use Rattle.tp_words.specs.Args.{IsInRange};
-ghost use Rattle.tp_words.specs.Commands.{IsCommandInRange};
-ghost use Rattle.tp_words.specs.Typed.{has_word};
-ghost use Rattle.tp_program.specs.Answers.{Answered, AnsweredAs, AnsweredHeld, CarriedOut, CommandDone, HoldsWritten, asking_for, most_status};
+ghost use Rattle.tp_program.specs.Lower.{History, IsInRange, IsCommandInRange, has_word};
+ghost use Rattle.tp_program.specs.Answers.{Answered, AnsweredAs, AnsweredHeld, CarriedOut, CommandDone, CommandUsed, HoldsWritten, UsedFor, asking_for, most_status};
 
 use crate::asking::answer_stop;
 use crate::backup_program::answer_backup;
 use crate::compact_file::compact_file;
-use crate::devices::{Devices, FileDevices};
+use crate::devices::Devices;
 use crate::files::{
     check_file, recover_file, show_file, status_file, trace_device_file, try_file, view_file,
 };
 use crate::format_file::format_file;
 use crate::in_use::{explain_changed, is_busy, refuse_in_use};
-use crate::locks::{InUse, Locks};
+use crate::locks::InUse;
 use crate::run_file::run_file;
 use crate::stream_program::hold_and_stream;
 use crate::trace_files::trace_file;
@@ -34,13 +31,13 @@ use tp_stream_files::{
 use tp_views::{explain, is_openable, print_help, tell_halted};
 use tp_words::{Asked, Command, CommandLine, More};
 
-/// Does what was asked for. Answers the program's status: 0 where it was done, 1 where it was refused, 2 where a node or port
-/// isn't there. The device that is to be written is held. What the system said of a call on a device that failed is put into `system`.
+/// Does what was asked for, if the device that is to be written is held. Answers the program's status: 0 if it was done, 1 if it was refused, 2 if a
+/// node or port doesn't exist. If a call on a device fails, what the system said goes into `system`.
 fn carry_out<
-    R: Files<File = F> + AllocGlobal + Threads + Wait + Sync,
-    F: FileExt + OpenFile + Drop + Send,
-    S: Devices<Device = D>,
+    R: Files + AllocGlobal + Threads + Wait + Sync,
+    S: Devices<Device = D, New = N>,
     D: Disk + Drop + Send,
+    N: Disk + Drop,
     W: Watch,
     O: Write,
     E: Write,
@@ -57,47 +54,48 @@ fn carry_out<
     requires range { IsInRange asked.now }
     requires held { HoldsWritten asked.now (S.held devices.old) }
     ensures few { result ≤ 2 }
+    ensures used { UsedFor D.keeps N.keeps asked.now (S.uses devices.old) (S.uses devices.new) (O.contents out.old) (O.contents out.new) result }
     ensures done { CarriedOut D.keeps history asked.now (S.calls devices.old) (S.calls devices.new) (O.contents out.old) (O.contents out.new) result }
 {
     match asked {
         Asked::Help(text) => print_help(text.as_str(), out, err),
-        Asked::Try { image, turns } => try_file(rt, image.as_str(), *turns, out, err),
-        Asked::Trace(trace) => trace_file(rt, trace, out, err),
+        Asked::Try { image, turns } => try_file(rt, devices, image.as_str(), *turns, out, err),
+        Asked::Trace(trace) => trace_file(rt, devices, trace, out, err),
         Asked::TraceDevice { device, part, maps } => {
-            trace_device_file(rt, device.as_str(), *part, text_in(maps), out, err)
+            trace_device_file(rt, devices, device.as_str(), *part, maps, out, err)
         }
         Asked::Format(new) => format_file(rt, devices, new, system, out, err),
         Asked::Run(run) => run_file(rt, devices, run, system, out, err),
         Asked::Compact { device, .. } => compact_file(rt, devices, device, system, out, err),
         Asked::Recover { device, workers } => {
-            recover_file(rt, device.as_str(), *workers, out, err)
+            recover_file(rt, devices, device.as_str(), *workers, out, err)
         }
-        Asked::Show { device, json } => show_file(rt, device.as_str(), *json, out, err),
+        Asked::Show { device, json } => show_file(rt, devices, device.as_str(), *json, out, err),
         Asked::Status {
             device,
             every,
             json,
-        } => status_file(rt, watch, device.as_str(), *every, *json, out, err),
+        } => status_file(rt, devices, watch, device.as_str(), *every, *json, out, err),
         Asked::Check {
             topology,
             images,
             json,
-        } => check_file(rt, topology.as_str(), images.as_str(), *json, out, err),
+        } => check_file(
+            rt,
+            devices,
+            topology.as_str(),
+            images.as_str(),
+            *json,
+            out,
+            err,
+        ),
         Asked::View { device, view, maps } => {
-            view_file(rt, device.as_str(), *view, text_in(maps), out, err)
+            view_file(rt, devices, device.as_str(), *view, maps, out, err)
         }
     }
 }
 
-/// The text of an option that may have been typed.
-pub(crate) fn text_in(option: &Option<String>) -> Option<&str> {
-    match option {
-        Some(text) => Some(text.as_str()),
-        None => None,
-    }
-}
-
-/// The device that is asked for, where one is.
+/// Gives the path of the device that is asked for; `None` for a command without one.
 fn device_of(asked: &Asked) -> Option<&str> {
     match asked {
         Asked::Format(new) => Some(new.device.as_str()),
@@ -112,12 +110,12 @@ fn device_of(asked: &Asked) -> Option<&str> {
     }
 }
 
-/// Whether what is printed would be written over the file of a path.
+/// Whether standard output goes into the file at `path`.
 pub(crate) fn prints_into<R: Files + StandardStreams>(rt: &R, path: &str) -> bool {
     is_standard_file(rt, path, StandardStream::Out)
 }
 
-/// Whether what is printed would be written over the device that is asked for.
+/// Whether standard output goes into the device that is asked for.
 fn prints_into_device<R: Files + StandardStreams>(rt: &R, asked: &Asked) -> bool {
     match device_of(asked) {
         Some(device) => prints_into(rt, device),
@@ -125,7 +123,7 @@ fn prints_into_device<R: Files + StandardStreams>(rt: &R, asked: &Asked) -> bool
     }
 }
 
-/// The file that a run takes as its port's input, where one is named.
+/// Gives the path of the file that a run takes as its port's input; `None` if none is named.
 fn input_of(asked: &Asked) -> Option<&str> {
     match asked {
         Asked::Run(run) => Some(run.input.as_ref()?.as_str()),
@@ -133,7 +131,7 @@ fn input_of(asked: &Asked) -> Option<&str> {
     }
 }
 
-/// Whether what a run prints would be written into the file of its input. What is no regular file has no bytes to lose, as a terminal.
+/// Whether what a run prints would go into the file of its input. Only a regular file has bytes to lose; a terminal has none.
 fn prints_into_input<R: Files + StandardStreams>(rt: &R, asked: &Asked) -> bool {
     match input_of(asked) {
         Some(path) => is_openable(rt, path) && prints_into(rt, path),
@@ -141,7 +139,7 @@ fn prints_into_input<R: Files + StandardStreams>(rt: &R, asked: &Asked) -> bool 
     }
 }
 
-/// Whether what is said on standard error may be written over what a run prints.
+/// Whether what a run says on standard error may overwrite what it prints.
 fn is_run_said_over<R: StandardStreams>(rt: &R, asked: &Asked) -> bool {
     match asked {
         Asked::Run(_) => is_output_said_over(rt),
@@ -149,7 +147,7 @@ fn is_run_said_over<R: StandardStreams>(rt: &R, asked: &Asked) -> bool {
     }
 }
 
-/// Says that standard output and standard error go into one file. Answers the status. A failed write is let go.
+/// Says that standard output and standard error go into one file. Answers the status. Ignores a failed write.
 fn refuse_mixed<E: Write>(err: &mut E) -> u8
     ensures { result ≡ 2 }
 {
@@ -160,7 +158,7 @@ fn refuse_mixed<E: Write>(err: &mut E) -> u8
     2
 }
 
-/// Says that what is printed would be written into the input. Answers the status. A failed write is let go.
+/// Says that standard output goes into the file of the input. Answers the status. Ignores a failed write.
 fn refuse_input<E: Write>(err: &mut E) -> u8
     ensures { result ≡ 2 }
 {
@@ -171,7 +169,7 @@ fn refuse_input<E: Write>(err: &mut E) -> u8
     2
 }
 
-/// Says that what is printed would be written over the device. Answers the status. A failed write is let go.
+/// Says that standard output goes into the file of the device. Answers the status. Ignores a failed write.
 pub(crate) fn refuse_output<E: Write>(err: &mut E) -> u8
     ensures { result ≡ 2 }
 {
@@ -182,7 +180,7 @@ pub(crate) fn refuse_output<E: Write>(err: &mut E) -> u8
     2
 }
 
-/// Says more of what a command did, where that is wanted.
+/// Says more of what a command did, if `more` asks for it.
 fn say_more<R: Files<File = F> + AllocGlobal, F: FileExt + OpenFile + Drop, E: Write>(
     rt: &R,
     asked: &Asked,
@@ -201,13 +199,14 @@ fn say_more<R: Files<File = F> + AllocGlobal, F: FileExt + OpenFile + Drop, E: W
     }
 }
 
-/// Does what was asked for, unless what is printed would be written over the device, or into the input, or what a run prints be written over;
-/// and says more of it as `more` says. The device that is to be written is held. Answers the program's status.
+/// Does what was asked for, if the device that is to be written is held, and says more of it as `more` asks. Answers the program's status. Before
+/// that it refuses if standard output goes into the device or into the input, or if standard error may overwrite what a run prints.
 fn answer_held<
     R: Files<File = F> + StandardStreams + AllocGlobal + Threads + Wait + Sync,
     F: FileExt + OpenFile + Drop + Send,
-    S: Devices<Device = D>,
+    S: Devices<Device = D, New = N>,
     D: Disk + Drop + Send,
+    N: Disk + Drop,
     W: Watch,
     O: Write,
     E: Write,
@@ -216,6 +215,7 @@ fn answer_held<
     requires range { IsInRange asked.now }
     requires held { HoldsWritten asked.now (S.held devices.old) }
     ensures few { result ≤ 2 }
+    ensures used { UsedFor D.keeps N.keeps asked.now (S.uses devices.old) (S.uses devices.new) (O.contents out.old) (O.contents out.new) result }
     ensures answered { AnsweredHeld D.keeps history asked.now (S.calls devices.old) (S.calls devices.new) (O.contents out.old) (O.contents out.new) result }
 {
     if prints_into_device(rt, asked) {
@@ -233,10 +233,11 @@ fn answer_held<
     status
 }
 
-/// Asks for the device that is to be written, where one is.
+/// Asks for the device that is to be written, if the command writes one. Fails if another process has it.
 fn hold_written<S: Devices>(devices: &mut S, asked: &Asked) -> Result<(), InUse>
     ensures noted { S.calls devices.new ≡ S.calls devices.old ++ asking_for asked.now (is_ok result) }
     ensures got { OnOk result (HoldsWritten asked.now (S.held devices.new)) }
+    ensures unused { S.uses devices.new ≡ S.uses devices.old }
 {
     match asked {
         Asked::Format(new) => devices.hold(new.device.as_str(), new.wait_lock),
@@ -254,12 +255,13 @@ fn hold_written<S: Devices>(devices: &mut S, asked: &Asked) -> Result<(), InUse>
     }
 }
 
-/// Does what was asked for, unless another process has the device that is to be written. Answers the program's status.
+/// Does what was asked for, as `answer_held` does. If another process has the device that is to be written, it refuses. Answers the program's status.
 fn answer_asked<
     R: Files<File = F> + StandardStreams + AllocGlobal + Threads + Wait + Sync,
     F: FileExt + OpenFile + Drop + Send,
-    S: Devices<Device = D>,
+    S: Devices<Device = D, New = N>,
     D: Disk + Drop + Send,
+    N: Disk + Drop,
     W: Watch,
     O: Write,
     E: Write,
@@ -267,6 +269,7 @@ fn answer_asked<
     ghost history: { History }
     requires { IsInRange asked.now }
     ensures few { result ≤ 2 }
+    ensures used { UsedFor D.keeps N.keeps asked.now (S.uses devices.old) (S.uses devices.new) (O.contents out.old) (O.contents out.new) result }
     ensures answered { AnsweredAs D.keeps history asked.now (S.calls devices.old) (S.calls devices.new) (O.contents out.old) (O.contents out.new) result }
 {
     match hold_written(devices, asked) {
@@ -275,12 +278,13 @@ fn answer_asked<
     }
 }
 
-/// Does what a command asks for, and says more of it as `more` says. Answers the program's status.
+/// Does what a command asks for, and says more of it as `more` asks. Answers the program's status.
 fn answer_command<
     R: Files<File = F> + StandardStreams + AllocGlobal + Threads + Wait + Sync,
     F: FileExt + OpenFile + Drop + Send,
-    S: Devices<Device = D>,
+    S: Devices<Device = D, New = N>,
     D: Disk + Drop + Send,
+    N: Disk + Drop,
     W: Watch,
     I: Feed,
     O: Write,
@@ -300,6 +304,7 @@ fn answer_command<
     ghost history: { History }
     requires { IsCommandInRange command.now }
     ensures few { result ≤ most_status command.now }
+    ensures used { CommandUsed D.keeps N.keeps command.now (S.uses devices.old) (S.uses devices.new) (O.contents out.old) (O.contents out.new) result }
     ensures done { CommandDone D.keeps history (feed.new ≡ feed.old) command.now (S.calls devices.old) (S.calls devices.new) (O.contents out.old) (O.contents out.new) result }
 {
     match command {
@@ -307,21 +312,25 @@ fn answer_command<
             hold_and_stream(rt, devices, run, more.of_refusals, feed, out, err, onlooker)
         }
         Command::Stop(request) => answer_stop(rt, devices, request, more.of_refusals, out, err),
-        Command::Backup(backup) => answer_backup(rt, backup, more.of_refusals, out, err),
+        Command::Backup(backup) => answer_backup(rt, devices, backup, more.of_refusals, out, err),
         Command::Other(asked) => answer_asked(rt, devices, watch, asked, more, out, err),
     }
 }
 
-/// Does what the words of a command line ask for, the program's name first; they are read once. Answers the program's status: that of the
-/// command, 3 where a stream ended since a node halted, or 2 where the words ask for nothing; no file is opened then. Asking for help is no
-/// fault. `devices` holds and opens a device that is written, and says whether another process has one whose stream is asked to stop;
-/// `watch` says who holds one that `status` looks at. `feed` is standard input, which a stream alone reads; `onlooker` looks at `err` and
-/// has the time; where it is a terminal, a refusal is explained, unless `--no-explain` is typed.
+/// Does what the words of a command line ask for; the first word is the program's name. It reads the words once. Answers the program's status: that
+/// of the command, 3 if a stream ended because a node halted, or 2 if the words ask for nothing. In that last case it opens no file. Asking for help
+/// is no fault.
+///
+/// - `devices` holds and opens a device that is written, and says whether another process has one whose stream is asked to stop.
+/// - `watch` says who holds a device that `status` reads.
+/// - `feed` is standard input, which only a stream reads.
+/// - `onlooker` knows whether `err` is a terminal, and the time. On a terminal refusals are explained, unless `--no-explain` is typed.
 pub fn answer_over<
     R: Files<File = F> + StandardStreams + AllocGlobal + Threads + Wait + Sync,
     F: FileExt + OpenFile + Drop + Send,
-    S: Devices<Device = D>,
+    S: Devices<Device = D, New = N>,
     D: Disk + Drop + Send,
+    N: Disk + Drop,
     W: Watch,
     I: Feed,
     O: Write,
@@ -340,7 +349,7 @@ pub fn answer_over<
     ghost history: { History }
     ensures few { result ≤ 3 }
     ensures three { result ≡ 3 → has_word (codes "--stream") words.now ≡ true }
-    ensures answered { Answered D.keeps history (feed.new ≡ feed.old) words.now (S.calls devices.old) (S.calls devices.new) (O.contents out.old) (O.contents out.new) result }
+    ensures answered { Answered D.keeps N.keeps history (feed.new ≡ feed.old) words.now (S.calls devices.old) (S.calls devices.new) (S.uses devices.old) (S.uses devices.new) (O.contents out.old) (O.contents out.new) result }
 {
     match CommandLine::read(rt.alloc(), words) {
         Ok(line) => {
@@ -353,62 +362,4 @@ pub fn answer_over<
             2
         }
     }
-}
-
-/// Does what the words ask for, as `answer_over`, over devices that tell nothing of what was called.
-fn answer_untold<
-    R: Files<File = F> + StandardStreams + AllocGlobal + Threads + Wait + Sync,
-    F: FileExt + OpenFile + Drop + Send,
-    S: Devices<Device = D>,
-    D: Disk + Drop + Send,
-    W: Watch,
-    I: Feed,
-    O: Write,
-    E: Write,
-    V: Onlooker,
->(
-    rt: &R,
-    devices: &mut S,
-    watch: &mut W,
-    words: &[String],
-    feed: &mut I,
-    out: &mut O,
-    err: &mut E,
-    onlooker: &mut V,
-) -> u8
-    ensures few { result ≤ 3 }
-    ensures three { result ≡ 3 → has_word (codes "--stream") words.now ≡ true }
-{
-    answer_over(rt, devices, watch, words, feed, out, err, onlooker)
-}
-
-/// Does what the words ask for, as `answer_over`, with the devices in files of the system, whose locks `locks` takes. They are let go once what
-/// was said is flushed: who waits for a device finds what was said of it. A failed flush is let go.
-pub fn answer_locking<
-    R: Files<File = F> + StandardStreams + AllocGlobal + Threads + Wait + Sync,
-    F: FileExt + OpenFile + Drop + Send,
-    L: Locks<F, Lock = K> + Drop,
-    K: Drop,
-    W: Watch,
-    I: Feed,
-    O: Write,
-    E: Write,
-    V: Onlooker,
->(
-    rt: &R,
-    locks: L,
-    watch: &mut W,
-    words: &[String],
-    feed: &mut I,
-    out: &mut O,
-    err: &mut E,
-    onlooker: &mut V,
-) -> u8
-    ensures few { result ≤ 3 }
-    ensures three { result ≡ 3 → has_word (codes "--stream") words.now ≡ true }
-{
-    let mut devices = FileDevices::new(rt, locks);
-    let status = answer_untold(rt, &mut devices, watch, words, feed, out, err, onlooker);
-    let _ = err.flush();
-    status
 }

@@ -1,4 +1,4 @@
-//! The rights of a copy: those of the device that it is made of.
+//! The rights of a copy, by those of its device.
 
 ghost use Rattle.std.specs.Prelude.{◌≡◌, bit_and};
 ghost use Rattle.std.specs.Fs.{metadata_mode};
@@ -8,13 +8,13 @@ use std::fs::{Metadata, OpenFile, Permissions};
 use std::io;
 use std::os::unix::fs::{MetadataExt, PermissionsExt};
 
-/// Who may read, write and run a file.
+/// The bits that say who may read, write and run a file.
 const RIGHTS: u32 = 0o777;
 
-/// What its owner may do of that.
+/// Of these, the owner's.
 const OWNER: u32 = 0o700;
 
-/// That group and others may read a file, write it, run it.
+/// Of these, the bits by which group and others may read a file; the next two are for writing and running it.
 const READ: u32 = 0o044;
 
 const WRITE: u32 = 0o022;
@@ -23,19 +23,19 @@ const RUN: u32 = 0o011;
 
 /// Who may read, write and run a device's file, and the number of its group.
 #[derive(Clone, Copy)]
-pub(crate) struct Rights {
+pub struct Rights {
     bits: u32,
     group: u32,
 }
 
-/// That right, if a file's group and all others have it; else none.
+/// Gives this right if both a file's group and all others have it; else none.
 fn shared_right(bits: u32, right: u32) -> u32
     ensures { result ≡ shared_right bits right }
 {
     if bits & right == right { right } else { 0 }
 }
 
-/// The owner's rights, and of the group's and the others' those that both have.
+/// Gives the owner's rights, and those that both the group and all others have.
 fn shared_rights(bits: u32) -> u32
     ensures { result ≡ shared_rights bits }
 {
@@ -48,7 +48,7 @@ fn shared_rights(bits: u32) -> u32
 }
 
 impl Rights {
-    /// Those of a device's file.
+    /// Gives the rights of a device's file.
     pub(crate) fn of(device: &Metadata) -> Rights
         ensures { result.bits ≡ bit_and (metadata_mode device.now) 0o777 }
     {
@@ -58,14 +58,14 @@ impl Rights {
         }
     }
 
-    /// Those with which the copy's file is made: which group it gets isn't known then, so nobody but its owner has any.
+    /// Gives the rights with which the copy's file is made: only its owner has any, since it isn't known yet which group the file gets.
     pub(crate) fn at_first(self) -> u32
         ensures { result ≡ first_rights self.bits }
     {
         self.bits & OWNER
     }
 
-    /// Those that the copy gets. Its file is of this group: if that is another one than the device's, it may do no more than all others.
+    /// Gives the rights of a copy whose file is of this group. If the device's group is another one, the group may do no more than all others.
     fn within(self, group: u32) -> u32
         ensures { result ≡ rights_in self.group group self.bits }
     {
@@ -76,7 +76,7 @@ impl Rights {
         }
     }
 
-    /// Gives them to the copy's file, if it hasn't got them.
+    /// Gives the copy's file its rights, unless it has them already.
     pub(crate) fn give<F: OpenFile>(self, file: &F, kept: &Metadata) -> io::Result<()> {
         let bits = self.within(kept.gid());
         if kept.permissions().mode() & RIGHTS == bits {

@@ -1,8 +1,7 @@
 //! `tpnet run`, on a device's file.
 
 ghost use Rattle.std.specs.Prelude.{◌≡◌, ◌≤◌, [], None, Some, IfOk, string_bytes};
-ghost use Rattle.tp_run.specs.Ran.{History};
-ghost use Rattle.tp_words.specs.Args.{IsRun};
+ghost use Rattle.tp_program.specs.Lower.{History, IsRun};
 ghost use Rattle.tp_program.specs.RunFile.{RanFile, RanWith};
 
 use crate::devices::{Devices, refuse_opening, refuse_special};
@@ -17,7 +16,7 @@ use tp_disk::Disk;
 use tp_views::{Refusal, is_openable, refuse};
 use tp_words::Run;
 
-/// The input of a run, which has none if no file was named.
+/// Reads the input of a run. It is empty if no file is named.
 fn read_input<R: Files + AllocGlobal>(rt: &R, run: &Run) -> Result<Vec<u8>, Refusal>
     ensures { run.now.input ≡ None → IfOk result (λ input. input.items ≡ []) }
 {
@@ -61,8 +60,8 @@ fn run_device<
     status
 }
 
-/// `tpnet run`, on files, if the device is held. The input is read first. The device's file is opened as it is, and keeps its length.
-/// What the system said of a call on it that failed is put into `system`.
+/// `tpnet run`, on files, if the device is held. It reads the input first. It opens the device's file as it is, and keeps its length. If a call on it
+/// fails, what the system said goes into `system`.
 #[inline(never)]
 pub(crate) fn run_file<
     R: Files + AllocGlobal + Threads + Wait + Sync,

@@ -1,12 +1,7 @@
 //! `tpnet run`, over any device.
 
 ghost use Rattle.std.specs.Prelude.{◌≡◌, ◌≤◌, ◌<◌, IsErr};
-ghost use Rattle.tp_model.specs.Opening.{verdict};
-ghost use Rattle.tp_model.specs.declared.limits.TheConstants.{MAX_STEPS};
-ghost use Rattle.tp_recover.specs.Reading.{LeavesNothingNew};
-ghost use Rattle.tp_run.specs.Ran.{History};
-ghost use Rattle.tp_work.specs.declared.start.TheConstants.{MAX_WORKERS};
-ghost use Rattle.tp_words.specs.Args.{IsRun};
+ghost use Rattle.tp_program.specs.Lower.{verdict, MAX_STEPS, LeavesNothingNew, History, MAX_WORKERS, IsRun};
 ghost use Rattle.tp_program.specs.Running.{RanAs, job_of, status_of};
 
 use std::alloc::Global;
@@ -17,7 +12,7 @@ use tp_disk::Disk;
 use tp_run::{Job, Outlet, Rest, RunFault, run};
 use tp_words::Run;
 
-/// What the threads are asked. A number that no device has is the greatest of its kind.
+/// Gives the job of a run. If a number that was typed is above what any device has, it is the greatest of its kind.
 #[tactic(auto, unfolding(tp_words::specs::Args::IsRun))]
 fn job_of(asked: &Run) -> Job
     requires { IsRun asked.now }
@@ -35,7 +30,7 @@ fn job_of(asked: &Run) -> Job
     }
 }
 
-/// Says that there is no such thing on the device.
+/// Says that the device has no such node or port.
 fn is_not_there<E: Write>(err: &mut E, what: &str) -> u8
     ensures { result ≡ 2 }
 {
@@ -43,7 +38,7 @@ fn is_not_there<E: Write>(err: &mut E, what: &str) -> u8
     2
 }
 
-/// Says why a run was refused. Answers the status. A failed write is ignored.
+/// Says why a run was refused. Answers the status. Ignores a failed write.
 fn refuse_run<E: Write>(err: &mut E, fault: RunFault) -> u8
     ensures { result ≡ 1 }
 {
@@ -51,7 +46,7 @@ fn refuse_run<E: Write>(err: &mut E, fault: RunFault) -> u8
     1
 }
 
-/// What is said after the number of the next entry, by what is left to do.
+/// Gives what is said after the number of the next entry, by what is left to do.
 fn word_of(rest: Rest) -> &'static str {
     match rest {
         Rest::Halted => " halted",
@@ -60,7 +55,7 @@ fn word_of(rest: Rest) -> &'static str {
     }
 }
 
-/// Says on standard error what came of a run. Answers the status. A failed write of that is dropped.
+/// Says on standard error what came of a run. Answers the status. Ignores a failed write.
 fn report<E: Write>(err: &mut E, done: Result<u64, RunFault>, rest: Rest) -> u8
     ensures { result ≡ status_of done }
 {
@@ -79,9 +74,9 @@ fn report<E: Write>(err: &mut E, done: Result<u64, RunFault>, rest: Rest) -> u8
 }
 
 /// `tpnet run`, on a device. It hands in what the port hasn't accepted of `input`, lets workers make the turns, keeps the journal, and prints and
-/// confirms what the port shows. It says on standard error which number the next entry gets, and whether each node has halted, or nothing is left to
-/// do. Answers the device, and the program's status: 0 if that was done, 2 if `--spare` is above a node's pages or the port doesn't exist, else 1. A
-/// device that doesn't open is left as it is, and so it is at status 2; nothing is printed then.
+/// confirms what the port shows. On standard error it says which number the next entry gets, and whether each node has halted, or nothing is left to
+/// do. Answers the device, and the program's status: 0 if that was done, 2 if `--spare` is above a node's pages or the port doesn't exist, else 1.
+/// After status 2, or if a device doesn't open, it is as it was, and nothing is printed.
 pub fn run_on<D: Disk + Drop + Send, O: Outlet, E: Write, R: Threads + Wait + Sync>(
     rt: &R,
     alloc: Global,

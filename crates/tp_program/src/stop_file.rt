@@ -1,4 +1,4 @@
-//! Files that end a stream: the one that was typed for it, and a request beside its device.
+//! The files that end a stream: the one that was typed for it, and a request beside its device.
 
 ghost use Rattle.std.specs.Prelude.{◌≡◌, None};
 
@@ -17,22 +17,22 @@ const STANDARD: &[StandardStream] = &[
     StandardStream::Error,
 ];
 
-/// Why a stream isn't begun, because of the file that is to end it, or of the place where it may be asked to stop. The device is as it was.
+/// Why a stream doesn't begin, because of its stop file or its request file. The device is as it was.
 #[derive(Clone, Copy)]
 pub enum StopFault {
-    /// It is the file of the device, of an end of a port, or of a standard stream.
+    /// The stop file is the file of the device, of a port's output or input, or of a standard stream.
     SameFile,
-    /// Something is at its path already.
+    /// Something is at the stop file's path already.
     There,
-    /// It can't be said whether something is at its path.
+    /// The system doesn't say whether something is at the stop file's path.
     Unseen,
-    /// The file DEVICE.stop is that of an end of a port, or of a standard stream.
+    /// The file DEVICE.stop is that of a port's output or input, or of a standard stream.
     RequestTaken,
-    /// There is a request from before that can't be removed.
+    /// An earlier request is there, and can't be removed.
     RequestLeft,
 }
 
-/// Says that a stream is asked to stop if there is a request beside its device, or if something is at the path of its stop file. It checks anew each
+/// Says whether a stream is asked to stop: there is a request beside its device, or something is at the path of its stop file. It checks anew each
 /// time.
 #[derive(Drop)]
 pub(crate) struct StopFile<'a, R> {
@@ -43,7 +43,7 @@ pub(crate) struct StopFile<'a, R> {
 }
 
 impl<'a, R> StopFile<'a, R> {
-    /// No look was made.
+    /// Begins with no check made.
     pub(crate) fn new(
         rt: &'a R,
         request: &'a RequestFile,
@@ -58,7 +58,7 @@ impl<'a, R> StopFile<'a, R> {
     }
 }
 
-/// Whether something is at a path. If that can't be said, nothing is.
+/// Whether something is at a path. If that can't be checked, the answer is no.
 fn is_there<R: Files>(rt: &R, path: &Option<String>) -> bool {
     match path {
         Some(path) => fs::metadata(rt, path.as_str()).is_ok(),
@@ -76,7 +76,7 @@ impl<'a, R: Files> Stop for StopFile<'a, R> {
     }
 }
 
-/// Whether a path names the file of one of these ends.
+/// Whether a path names the file of one of these outputs and inputs.
 fn is_end<R: Files>(rt: &R, path: &str, files: &[PortFile]) -> bool {
     for file in files {
         if !file.is_standard() && is_one_file(rt, path, file.path.as_str()) {
@@ -96,7 +96,7 @@ fn is_standard<R: Files + StandardStreams>(rt: &R, path: &str) -> bool {
     false
 }
 
-/// Whether a path names the file of the device, of an end of a port, or of a standard stream.
+/// Whether a path names the file of the device, of a port's output or input, or of a standard stream.
 fn is_part<R: Files + StandardStreams>(rt: &R, asked: &StreamRun, path: &str) -> bool {
     is_one_file(rt, path, asked.device.as_str())
         || is_end(rt, path, &asked.ends.outs)
@@ -104,7 +104,7 @@ fn is_part<R: Files + StandardStreams>(rt: &R, asked: &StreamRun, path: &str) ->
         || is_standard(rt, path)
 }
 
-/// Why a stream isn't begun because of the file that is to end it, if it isn't: as things are now.
+/// Gives why a stream doesn't begin because of its stop file, as things are now; `None` if it may.
 fn stop_fault<R: Files + StandardStreams>(rt: &R, asked: &StreamRun) -> Option<StopFault>
     ensures { asked.now.stop_file ≡ None → result ≡ None }
 {
@@ -119,13 +119,13 @@ fn stop_fault<R: Files + StandardStreams>(rt: &R, asked: &StreamRun) -> Option<S
     }
 }
 
-/// Whether the path of requests names the file of an end of a port, or of a standard stream.
+/// Whether the path of requests names the file of a port's output or input, or of a standard stream.
 fn is_taken<R: Files + StandardStreams>(rt: &R, asked: &StreamRun, request: &RequestFile) -> bool {
     let path = request.path();
     is_end(rt, path, &asked.ends.outs) || is_end(rt, path, &asked.ends.ins) || is_standard(rt, path)
 }
 
-/// Why a stream isn't begun because of the file that is to end it, or of the place where it may be asked to stop, as things are now.
+/// Gives why a stream doesn't begin because of its stop file or its request file, as things are now; `None` if it may.
 pub(crate) fn places_fault<R: Files + StandardStreams>(
     rt: &R,
     asked: &StreamRun,
@@ -141,7 +141,8 @@ pub(crate) fn places_fault<R: Files + StandardStreams>(
     }
 }
 
-/// The same before anything was opened; it takes away an earlier request, which was for another process. The device is held.
+/// Gives the fault of `places_fault` before anything is opened, if the device is held. It also removes an earlier request, which was for another
+/// process.
 pub(crate) fn first_fault<R: Files + StandardStreams>(
     rt: &R,
     asked: &StreamRun,
@@ -157,8 +158,7 @@ pub(crate) fn first_fault<R: Files + StandardStreams>(
     }
 }
 
-/// Says why a stream isn't begun because of the file that is to end it, or of the place where it may be asked to stop. Answers the status. A failed
-/// write is ignored.
+/// Says why a stream doesn't begin, because of its stop file or its request file. Answers the status. Ignores a failed write.
 pub(crate) fn report_stop<E: Write>(err: &mut E, fault: StopFault) -> u8
     ensures { result ≡ 2 }
 {

@@ -1,4 +1,4 @@
-//! What `--explain` says of a stream that was refused: which end, why, and the way out.
+//! What `--explain` says of a stream that was refused: which output or input, why, and the way out.
 
 use crate::opening_again::push_unopened;
 use crate::streaming::FilesFault;
@@ -13,7 +13,7 @@ use tp_stream_files::{EndFault, FileSink, PortFile};
 use tp_views::{is_special, push_error, push_file};
 use tp_words::{Shown, StreamRun};
 
-/// The path that was typed for a port.
+/// Gives the path that was typed for a port.
 fn path_of<'a>(files: &'a [PortFile], port: u8) -> &'a str {
     for file in files {
         if file.port == port {
@@ -23,7 +23,7 @@ fn path_of<'a>(files: &'a [PortFile], port: u8) -> &'a str {
     "(no file)"
 }
 
-/// Says of a port whose end isn't a regular file how its bytes go through standard input or output.
+/// Says of a port whose file isn't regular how its bytes can go through standard input or output.
 fn push_standard(
     text: &mut String,
     path: &str,
@@ -53,7 +53,7 @@ fn read_byte<R: Files<File = F>, F: FileExt + OpenFile + Drop>(
     file.read_at(&mut [0; 1], 0)
 }
 
-/// Says why a port's input can't be opened or read, as far as that is found now.
+/// Says why a port's input can't be opened or read, as far as that is so now.
 fn push_source<R: Files<File = F>, F: FileExt + OpenFile + Drop>(
     rt: &R,
     text: &mut String,
@@ -75,7 +75,7 @@ fn push_source<R: Files<File = F>, F: FileExt + OpenFile + Drop>(
     }
 }
 
-/// Says why a port's output can't be opened, as far as that is found now: it is opened again as before.
+/// Says why a port's output can't be opened, as far as that is so now: it opens it again as before.
 fn push_sink<R: Files<File = F>, F: FileExt + OpenFile + Drop>(
     rt: &R,
     text: &mut String,
@@ -104,13 +104,13 @@ fn push_sink<R: Files<File = F>, F: FileExt + OpenFile + Drop>(
     )
 }
 
-/// Opens and syncs an output's file that is there again.
+/// Opens and syncs the file of an output again.
 fn sync_again<R: Files>(rt: &R, path: &str) -> io::Result<()> {
     let mut how = OpenOptions::new();
     how.read(true).write(true).open(rt, path)?.sync_all()
 }
 
-/// Says what is found now of a port's output that couldn't be written or synced.
+/// Says how the file of a port's output is now, after it couldn't be written or synced.
 fn push_unwritten<R: Files>(
     rt: &R,
     text: &mut String,
@@ -138,7 +138,7 @@ fn push_unwritten<R: Files>(
     }
 }
 
-/// Says why a port's end failed.
+/// Says why a port's output or input failed.
 fn push_end_fault<R: Files<File = F>, F: FileExt + OpenFile + Drop>(
     rt: &R,
     text: &mut String,
@@ -168,7 +168,7 @@ fn push_short(
     )
 }
 
-/// Says that an output's file has more bytes than were put out.
+/// Says that an output's file has more bytes than the port put out.
 fn push_long(
     text: &mut String,
     asked: &StreamRun,
@@ -184,7 +184,7 @@ fn push_long(
     )
 }
 
-/// Says that a reader hasn't what was confirmed.
+/// Says that a reader lacks outputs that were confirmed.
 fn push_gone(text: &mut String, port: u8, have: u64, confirmed: u64) -> Result<(), AllocError> {
     write!(
         text,
@@ -192,7 +192,7 @@ fn push_gone(text: &mut String, port: u8, have: u64, confirmed: u64) -> Result<(
     )
 }
 
-/// Says that a reader has more than was shown.
+/// Says that a reader claims more than was shown.
 fn push_not_shown(text: &mut String, port: u8, have: u64, shown: u64) -> Result<(), AllocError> {
     write!(
         text,
@@ -200,7 +200,7 @@ fn push_not_shown(text: &mut String, port: u8, have: u64, shown: u64) -> Result<
     )
 }
 
-/// Says that an input has fewer bytes than were accepted of it.
+/// Says that an input has fewer bytes than its port has accepted.
 fn push_short_input(
     text: &mut String,
     asked: &StreamRun,
@@ -274,7 +274,7 @@ fn push_stream_fault<R: Files<File = F> + AllocGlobal, F: FileExt + OpenFile + D
     }
 }
 
-/// Says why an end of a stream failed, why the stream was refused or ended early, or why its device wasn't opened.
+/// Says why a port's output or input failed, why the stream was refused or ended early, or why its device wasn't opened.
 fn push_explanation<R: Files<File = F> + AllocGlobal, F: FileExt + OpenFile + Drop>(
     rt: &R,
     text: &mut String,

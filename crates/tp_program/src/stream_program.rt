@@ -1,8 +1,7 @@
 //! What the program does for a command line with `--stream`.
 
 ghost use Rattle.std.specs.Prelude.{◌≡◌, ◌≤◌, Some, string_bytes};
-ghost use Rattle.tp_run.specs.Ran.{History};
-ghost use Rattle.tp_words.specs.StreamArgs.{IsStreamRun};
+ghost use Rattle.tp_program.specs.Lower.{History, IsStreamRun};
 ghost use Rattle.tp_program.specs.Answers.{StreamedHeld};
 ghost use Rattle.tp_program.specs.StreamFile.{StreamedFile};
 
@@ -22,8 +21,8 @@ use tp_stream_files::{Ending, Feed, Onlooker, StandardStreams};
 use tp_views::{Refusal, is_openable, refuse, tell_inside};
 use tp_words::StreamRun;
 
-/// What came of a command: its status, whether a stream ended since nothing was left to do, or why it ended early, and what the system said of a call
-/// on the device that failed.
+/// What came of a command: its `status`, and whether a stream ended because nothing was left to do (`is_quiet`). If a stream ended early, `fault`
+/// says why, and `system` is what the system said of a failed call on the device.
 #[derive(Drop)]
 struct Outcome {
     status: u8,
@@ -32,7 +31,7 @@ struct Outcome {
     system: Option<io::Error>,
 }
 
-/// Whether a stream ended since nothing was left to do.
+/// Whether a stream ended because nothing was left to do.
 fn is_quiet(streamed: Streamed) -> bool {
     match streamed.done {
         Ok(ended) => matches!(ended.why, Ending::Quiet),
@@ -40,7 +39,7 @@ fn is_quiet(streamed: Streamed) -> bool {
     }
 }
 
-/// What came of a stream.
+/// Gives what came of a stream.
 fn outcome_of(streamed: Streamed, system: Option<io::Error>) -> Outcome
     ensures { result.status ≡ streamed.status }
 {
@@ -52,7 +51,7 @@ fn outcome_of(streamed: Streamed, system: Option<io::Error>) -> Outcome
     }
 }
 
-/// The device's file isn't opened.
+/// Says that the device's file isn't opened, and gives what came of that.
 fn unopened<E: Write>(err: &mut E, refusal: Refusal, system: Option<io::Error>) -> Outcome
     ensures { result.status ≡ 1 }
 {
@@ -64,7 +63,7 @@ fn unopened<E: Write>(err: &mut E, refusal: Refusal, system: Option<io::Error>) 
     }
 }
 
-/// The device's file isn't opened, since it is no regular file.
+/// Says that the device's file isn't opened because it is no regular file, and gives what came of that.
 fn unopened_special<S: Devices, E: Write>(devices: &S, asked: &StreamRun, err: &mut E) -> Outcome
     ensures { result.status ≡ 1 }
 {
@@ -78,7 +77,7 @@ fn unopened_special<S: Devices, E: Write>(devices: &S, asked: &StreamRun, err: &
     }
 }
 
-/// `tpnet run --stream`, on files. The device's file, which is held, is opened as it is, and keeps its length.
+/// `tpnet run --stream`, on files. It opens the device's file, which is held, as it is, and keeps its length.
 #[inline(never)]
 fn stream_file<
     R: Files<File = F> + StandardStreams + AllocGlobal + Threads + Wait + Sync,
@@ -130,8 +129,8 @@ fn say_why<R: Files<File = F> + AllocGlobal, F: FileExt + OpenFile + Drop, E: Wr
     }
 }
 
-/// Streams as it is asked for. If `explains`, it says more of a refusal, or, of a stream that ended since nothing was left to do, whether processes
-/// wait for other nodes. Answers the status.
+/// Makes the stream that is asked for. If `explains` is true, it says more: of a refusal why; of a stream that ended because nothing was left to do,
+/// whether processes wait for other nodes. Answers the status.
 fn stream_and_explain<
     R: Files<File = F> + StandardStreams + AllocGlobal + Threads + Wait + Sync,
     F: FileExt + OpenFile + Drop + Send,
@@ -168,8 +167,8 @@ fn stream_and_explain<
     ended.status
 }
 
-/// Asks for the device first, and streams on it unless another process has it; if `explains`, says more of a refusal. Answers the status: that of the
-/// stream, or 3 if it ended since a node halted.
+/// Asks for the device first, and makes the stream unless another process has it; if `explains` is true, it says more of a refusal. Answers the
+/// status: that of the stream, 3 if it ended because a node halted.
 pub(crate) fn hold_and_stream<
     R: Files<File = F> + StandardStreams + AllocGlobal + Threads + Wait + Sync,
     F: FileExt + OpenFile + Drop + Send,

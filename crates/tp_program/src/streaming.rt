@@ -1,16 +1,8 @@
 //! `tpnet run --stream`, over any device.
 
 ghost use Rattle.std.specs.Prelude.{◌≡◌, ◌≤◌, Err, IfErr, IfOk, IsErr};
-ghost use Rattle.tp_flush.specs.Known.{Began};
-ghost use Rattle.tp_model.specs.Opening.{verdict};
-ghost use Rattle.tp_model.specs.declared.limits.TheConstants.{MAX_STEPS};
-ghost use Rattle.tp_recover.specs.Reading.{LeavesNothingNew};
-ghost use Rattle.tp_recover.specs.declared.unopened.Unopened.{Unopened};
-ghost use Rattle.tp_run.specs.Ran.{History};
-ghost use Rattle.tp_stream.specs.Quiet.{IsAsked};
-ghost use Rattle.tp_stream.specs.Streamed.{StaysUnstreamed, Streamed as StreamLeft};
+ghost use Rattle.tp_program.specs.Lower.{Began, verdict, MAX_STEPS, LeavesNothingNew, Unopened, History, IsAsked, StaysUnstreamed, StreamLeft, IsStreamRun};
 ghost use Rattle.tp_program.specs.Streaming.{IsOfEnds, IsUnopened, FindsNothingNew, StreamedOn, end_status, ending_status, fault_status, seconds_of, shown_on, spread_over, stream_status, task_of};
-ghost use Rattle.tp_words.specs.StreamArgs.{IsStreamRun};
 
 use crate::request_file::RequestFile;
 use crate::stop_file::{StopFault, StopFile, first_fault, places_fault, report_stop};
@@ -28,18 +20,18 @@ use tp_stream_files::{
 };
 use tp_words::StreamRun;
 
-/// After how many seconds it is said again how far a stream has come, if none were typed.
+/// After how many seconds the stream tells again how far it has come, if no number was typed.
 const SECONDS_TOLD: u32 = 10;
 
-/// How many threads make turns at most, if nothing was typed of that.
+/// How many threads make turns at most, if no number was typed.
 const MOST_WORKERS: usize = 4;
 
 /// Why a stream on files ends early.
 #[derive(Clone, Copy)]
 pub enum FilesFault {
-    /// An end isn't opened. The device is as it was.
+    /// An output or input isn't opened. The device is as it was.
     End(EndFault),
-    /// The file that is to end it isn't taken, or it can't be asked to stop. The device is as it was.
+    /// The stop file can't be used, or the stream can't be asked to stop. The device is as it was.
     Stop(StopFault),
     /// The stream ended early.
     Stream(StreamFault),
@@ -52,7 +44,8 @@ pub struct Streamed {
     pub done: Result<Ended, FilesFault>,
 }
 
-/// What the network is asked. It may be asked to stop whatever was typed. A number of frames that no node has is the greatest of its kind.
+/// Gives the task of a stream. It may always be asked to stop, whatever was typed. If more frames were typed than any node has, the number is the
+/// greatest of its kind.
 #[tactic(auto, unfolding(tp_words::specs::StreamArgs::IsStreamRun))]
 fn task_of(asked: &StreamRun) -> Task
     requires { IsStreamRun asked.now }
@@ -75,7 +68,7 @@ fn task_of(asked: &StreamRun) -> Task
     }
 }
 
-/// The task, if standard error may be a terminal: there it is told how far the stream has come, whatever was typed.
+/// Gives the task with progress told, if standard error may be a terminal, whatever was typed.
 fn shown_on(task: Task, on_terminal: bool) -> Task
     requires { task.quantum ≤ MAX_STEPS }
     ensures value { result ≡ shown_on on_terminal task }
@@ -87,7 +80,7 @@ fn shown_on(task: Task, on_terminal: bool) -> Task
     }
 }
 
-/// The task, if nothing was typed of how many threads make turns: as many as there are processors, up to [`MOST_WORKERS`].
+/// Gives the task with as many threads as there are processors, up to [`MOST_WORKERS`], if no number was typed.
 fn spread_over(task: Task, processors: usize) -> Task
     requires { task.quantum ≤ MAX_STEPS }
     ensures value { result ≡ spread_over processors task }
@@ -101,7 +94,7 @@ fn spread_over(task: Task, processors: usize) -> Task
     Task { workers, ..task }
 }
 
-/// How many processors there are, if that can be said.
+/// How many processors there are; 1 if that isn't known.
 fn processors<R: Threads>(rt: &R) -> usize {
     match thread::available_parallelism(rt) {
         Ok(count) => count.get(),
@@ -109,7 +102,7 @@ fn processors<R: Threads>(rt: &R) -> usize {
     }
 }
 
-/// After how many seconds it is said again how far the stream has come.
+/// After how many seconds the stream tells again how far it has come.
 fn seconds_of(asked: &StreamRun) -> u32
     ensures { result ≡ seconds_of asked.now }
 {
@@ -119,7 +112,7 @@ fn seconds_of(asked: &StreamRun) -> u32
     }
 }
 
-/// Says why a port's end isn't opened. Answers the status.
+/// Says why a port's output or input isn't opened. Answers the status.
 fn report_end<E: Write>(err: &mut E, fault: EndFault) -> u8
     ensures value { result ≡ end_status fault }
     ensures few { result ≤ 2 }
@@ -180,7 +173,7 @@ fn report_fault<E: Write>(err: &mut E, fault: StreamFault) -> u8
     }
 }
 
-/// The status of a stream that was done: 3 if a node has halted, else 0.
+/// Gives the status of a stream that was done: 3 if a node has halted, else 0.
 fn ending_status(why: Ending) -> u8
     ensures value { result ≡ ending_status why }
     ensures few { result ≤ 3 }
@@ -191,7 +184,7 @@ fn ending_status(why: Ending) -> u8
     }
 }
 
-/// Says why a stream ended early. A stream that was done has said so itself. Answers the status. A failed write is dropped.
+/// Says why a stream ended early. If it was done, it has said so itself. Answers the status. Ignores a failed write.
 fn report<E: Write>(err: &mut E, done: Result<Ended, FilesFault>) -> u8
     ensures value { result ≡ stream_status done }
     ensures few { result ≤ 3 }
@@ -204,9 +197,9 @@ fn report<E: Write>(err: &mut E, done: Result<Ended, FilesFault>) -> u8
     }
 }
 
-/// Streams a device's network on ends that are open. It tells `err` where standard output and standard input begin, how far the stream has come, and
-/// at the end each node that has stopped. Then it tells `next M`, with how much standard output was given and how much of that is confirmed, and why
-/// it ended.
+/// Makes a stream over outputs and inputs that are open. It tells `err` where standard output and standard input begin, how far the stream has come,
+/// and at the end each node that has stopped. Then it tells `next M`, how much standard output was given and how much of that is confirmed, and why
+/// the stream ended.
 #[inline(never)]
 fn stream_opened<
     R: Files + AllocGlobal + Threads + Wait + Sync,
@@ -255,8 +248,8 @@ fn stream_opened<
     (disk, done)
 }
 
-/// Opens the ends of a device's ports. It checks the file that is to end the stream, and the place where it may be asked to stop, before and after:
-/// one of the ends made meanwhile may be that file.
+/// Opens the outputs and inputs of a device's ports. It checks the stop file and the request file before and after, since one of the files that it
+/// makes may be one of these two.
 #[inline(never)]
 fn open_ports<
     'a,
@@ -286,8 +279,8 @@ fn open_ports<
     }
 }
 
-/// Opens the ends of a device's ports, and streams its network on them. A request to stop is taken away after that, whyever it ended: it was
-/// for this process, which holds the device.
+/// Opens the outputs and inputs of a device's ports, and makes a stream over them. In the end it removes a request to stop, whatever the reason was:
+/// the request was for this process, which holds the device.
 fn stream_files<
     R: Files<File = F> + StandardStreams + AllocGlobal + Threads + Wait + Sync,
     F: FileExt + OpenFile + Drop + Send,
@@ -329,8 +322,8 @@ fn stream_files<
     }
 }
 
-/// `tpnet run --stream`, on a device. It opens the ends of its ports, lets its network run, and puts, makes safe and confirms what ports show as it
-/// comes, until the stream is over as it was asked to be. Answers the device, the program's status and what came of it.
+/// `tpnet run --stream`, on a device. It opens the outputs and inputs of its ports, and lets its network run. What ports show is put, made safe and
+/// confirmed as it comes, until the stream is over as the task says. Answers the device, the program's status, and what came of the stream.
 pub fn stream_on<
     R: Files<File = F> + StandardStreams + AllocGlobal + Threads + Wait + Sync,
     F: FileExt + OpenFile + Drop + Send,

@@ -1,16 +1,16 @@
-//! What `tpnet status` is told beside the device: who holds it, and the time.
+//! What `tpnet status` is told besides the device: who holds it, and the time.
 
 /// Says who holds a device and what time it is, and waits between two checks. It promises nothing.
 pub trait Watch {
     /// Whether another process holds the device's file.
     fn is_held(&mut self, device: &str) -> bool;
 
-    /// How many milliseconds have gone by since some start.
+    /// How many milliseconds have passed since some fixed moment.
     fn now(&mut self) -> u64;
 
-    /// How many seconds have gone by since 1970, if that is known.
+    /// How many seconds have passed since 1970; `None` if that isn't known.
     fn clock(&mut self) -> Option<u64>;
 
-    /// Waits `seconds`. Answers whether a further look is wanted.
+    /// Waits `seconds` seconds. Answers whether `status` is to check again.
     fn pause(&mut self, seconds: u32) -> bool;
 }

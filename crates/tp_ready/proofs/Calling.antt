@@ -1,8 +1,6 @@
 -- One more call keeps the order of all calls.
 use Rattle.std.proofs.Common.{◌≡◌, ◌≢◌, ℕ, ◌<◌, ◌≤◌, true, false, true≢false, eq-eqb, ne_eqb, List, [], ◌∷◌, ◌++◌, set, sum_by, sym, refl, ap, ◌∙◌, subst, ⊎_elim, lt_of_not-le, append-nil, arith}
-use Rattle.std.proofs.lemmas.List.Sums.{sum_by-cons}
-use Rattle.crossbeam_queue.proofs.Lists.{at_set, at_snoc, set_else}
-use mathlib.Core.Option.{some}
+use Rattle.tp_ready.proofs.Lower.{sum_by-cons, at_set, at_snoc, set_else, some}
 use lib.ListN.{get_elem?}
 use Rattle.tp_ready.specs.declared.call.Call.{Call}
 use Rattle.tp_ready.specs.declared.call.Claim.{Claim}

@@ -1,11 +1,7 @@
 -- Each step of a pass keeps the rule of the queue.
-use Rattle.std.proofs.Common.{◌≡◌, ◌≢◌, ℕ, zero, suc, ◌+◌, ◌-◌, ◌<◌, ◌≤◌, true, false, true≢false, List, [], ◌∷◌, ◌++◌, length, set, sum_by, sym, refl, ap, ◌∙◌, subst, ⊎_elim, lt_of_not-le, length-append, Bool, arith}
-use Rattle.std.proofs.Common.{take, drop, take-append-drop}
-use Rattle.std.proofs.lemmas.List.Sums.{sum_by-cons, sum_by-append, sum_by_push}
-use mathlib.Core.Option.{some, some-injective, some-ne-none}
+use Rattle.std.proofs.Common.{◌≡◌, ◌≢◌, ℕ, zero, suc, ◌+◌, ◌-◌, ◌<◌, ◌≤◌, true, false, true≢false, List, [], ◌∷◌, ◌++◌, length, set, sum_by, sym, refl, ap, ◌∙◌, subst, ⊎_elim, lt_of_not-le, length-append, Bool, arith, take, drop, take-append-drop}
+use Rattle.tp_ready.proofs.Lower.{sum_by-cons, sum_by-append, sum_by_push, some, some-injective, some-ne-none, Pushes, Pops, Forks, Merges, Learns, at_set, at_snoc}
 use lib.ListN.{get_elem?}
-use Rattle.crossbeam_queue.specs.Fifo.{Pushes, Pops, Forks, Merges, Learns}
-use Rattle.crossbeam_queue.proofs.Lists.{at_set, at_snoc}
 use Rattle.tp_ready.specs.declared.call.Call.{Call}
 use Rattle.tp_ready.specs.declared.call.Claim.{Claim}
 use Rattle.tp_ready.specs.declared.call.Step.{Step}

@@ -1,3 +1,4 @@
+pub mod Lower
 pub mod Calling
 pub mod Dealing
 pub mod Steps

@@ -1,9 +1,7 @@
 -- Each step on the mark keeps the rule.
 use Rattle.std.proofs.Common.{◌≡◌, ◌≢◌, ℕ, zero, suc, ◌≤◌, true, false, true≢false, max, List, [], ◌∷◌, ◌++◌, set, slice_index, sym, refl, ap, ◌∙◌, subst, ⊎_elim, zero-le, le_refl, arith, append-nil, append_assoc}
-use mathlib.Core.Option.{some, some-injective, some-ne-none}
+use Rattle.tp_ready.proofs.Lower.{some, some-injective, some-ne-none, State, Me, Allows, Splits, Joins, keeps, at_set, at_snoc}
 use lib.ListN.{get_elem?}
-use Rattle.atomic_table.specs.Table.{State, Me, Allows, Splits, Joins, keeps}
-use Rattle.atomic_table.proofs.Lists.{at_set, at_snoc}
 use Rattle.tp_ready.specs.declared.mark_view.Rise.{Rise}
 use Rattle.tp_ready.specs.declared.mark_view.View.{View}
 use Rattle.tp_ready.specs.MarkView.{raiser, reader, informed, SeatFits, Marks, Loaded, Audited, Raised}

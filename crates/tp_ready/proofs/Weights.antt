@@ -1,11 +1,7 @@
 -- Sums over what passes hold, and over the numbers below a count.
 use Rattle.std.proofs.Common.{◌≡◌, ℕ, zero, suc, ◌+◌, ◌<◌, ◌≤◌, List, [], ◌∷◌, length, set, sum_by, sym, refl, ap, lt_of_not-le, arith}
-use Rattle.std.proofs.lemmas.List.Sums.{sum_by-cons}
-use mathlib.Core.Option.{some, some-injective, some-ne-none}
-use mathlib.Core.Logic.{dite}
-use native.Mathlib.Decide.{dec_le}
+use Rattle.tp_ready.proofs.Lower.{sum_by-cons, some, some-injective, some-ne-none, dite, dec_le, nat_tests}
 use lib.ListN.{get_elem?}
-use Rattle.std.proofs.lemmas.Bool.Decides.{nat_tests}
 use Rattle.tp_ready.specs.View.{sum_below, one_at}
 
 module _ {A : Type 0} where

@@ -1,17 +1,7 @@
 -- What is read before a cut has a generation.
-use Rattle.std.proofs.Common.{◌≡◌, ℕ, ◌<◌, List, subst}
-use Rattle.std.specs.Prelude.{nat_lt, ◌==◌, Ok}
-use Rattle.std.proofs.lemmas.Bool.{and_parts, ltb-true}
-use Rattle.tp_model.specs.declared.limits.TheConstants.{NUMBER_LIMIT}
-use Rattle.tp_model.specs.Bytes.{u32_at}
-use Rattle.tp_model.specs.CutImage.{only_if}
-use Rattle.tp_model.specs.Device.{generation_of}
-use Rattle.tp_model.specs.Journal.{cut_length}
-use Rattle.tp_model.specs.Opening.{form_of, has_front, front_in}
-use Rattle.tp_model.specs.Topology.{Topology}
-use Rattle.tp_area.specs.declared.front.CutFront.{CutFront}
-use Rattle.tp_area.specs.Fronts.{cut_front, front_given}
-use Rattle.tp_law_machine.proofs.Faults.{bind_ok, or_damaged_ok, tested}
+use Rattle.std.proofs.Common.{◌≡◌, ℕ, ◌<◌, List, subst, Ok}
+use Rattle.std.specs.Prelude.{nat_lt, ◌==◌}
+use Rattle.tp_recover.proofs.Lower.{and_parts, ltb-true, NUMBER_LIMIT, u32_at, only_if, generation_of, cut_length, form_of, has_front, front_in, Topology, CutFront, cut_front, front_given, bind_ok, or_damaged_ok, tested}
 
 pub front_age : (t : Topology) (at : ℕ) (content : List ℕ) (front : CutFront) → front_given t at content ≡ Ok front → front.generation < NUMBER_LIMIT
 front_age t at content front e =

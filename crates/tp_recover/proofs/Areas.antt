@@ -1,16 +1,7 @@
 -- What is read of the fronts of areas.
-use Rattle.std.proofs.Common.{◌≡◌, ℕ, ◌+◌, ◌-◌, ◌≤◌, List, take, drop, refl, sym, ap, ◌∙◌, arith, true, false}
-use Rattle.std.specs.Prelude.{Bool, Ok}
-use Rattle.tp_model.specs.declared.areas.TwoAreas.{TwoAreas}
-use Rattle.tp_model.specs.Disk.{Moment}
-use Rattle.tp_model.specs.Bytes.{u8_at, u64_at}
-use Rattle.tp_model.specs.Device.{area_start, content_of, generation_of}
-use Rattle.tp_model.specs.Opening.{choice, chosen_area}
-use Rattle.tp_model.specs.Topology.{Topology}
-use Rattle.tp_area.specs.declared.front.AreaFront.{AreaFront}
-use Rattle.tp_area.specs.Fronts.{area_front, front_given}
+use Rattle.std.proofs.Common.{◌≡◌, ℕ, ◌+◌, ◌-◌, ◌≤◌, List, take, drop, refl, sym, ap, ◌∙◌, arith, true, false, Bool, Ok}
+use Rattle.tp_recover.proofs.Lower.{TwoAreas, Moment, u8_at, u64_at, area_start, content_of, generation_of, choice, chosen_area, Topology, AreaFront, area_front, front_given, u8_at-take, u32_at-take, u64_at-take, u8_at-drop, u64_at-drop}
 use Rattle.tp_recover.specs.Reading.{found}
-use Rattle.tp_area.proofs.Parts.{u8_at-take, u32_at-take, u64_at-take, u8_at-drop, u64_at-drop}
 
 -- the front of the bytes that begin there
 pub area_front-part : (start : ℕ) (xs : List ℕ) → area_front 0 (take 9 (drop start xs)) ≡ area_front start xs

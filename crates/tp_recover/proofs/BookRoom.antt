@@ -1,22 +1,7 @@
 -- What a book gives finds room on its device.
 use Rattle.std.proofs.Common.{◌≡◌, ℕ, ◌+◌, ◌*◌, ◌≤◌, ◌<◌, true, false, List, [], ◌∷◌, length, sym, subst, arith, Some, None, Ok}
-use Rattle.std.specs.List.{AllByRecursion}
 use Rattle.std.specs.Prelude.{nat_le}
-use Rattle.std.proofs.lemmas.Bool.{and_parts}
-use Rattle.tp_model.specs.declared.entry.Entry.{Entry}
-use Rattle.tp_model.specs.Device.{areas_end}
-use Rattle.tp_model.specs.EntryBytes.{IsSpelt}
-use Rattle.tp_model.specs.Journal.{entry_room, is_roomy, room}
-use Rattle.tp_model.specs.Node.{t414, t414_ends}
-use Rattle.tp_model.specs.Opening.{Opened, opening, verdict}
-use Rattle.tp_law_device.proofs.Heads.{head_parts}
-use Rattle.tp_law_device.proofs.Opens.{reads_of}
-use Rattle.tp_book.specs.Joined.{FitsRoom}
-use Rattle.tp_area.specs.declared.place.Place.{Place}
-use Rattle.tp_area.specs.Appended.{append_refusal}
-use Rattle.tp_area.specs.Places.{place_at}
-use Rattle.tp_area.specs.Tails.{tail_refusal}
-use Rattle.tp_area.proofs.Roomy.{group_fits_room, tail_fits_room}
+use Rattle.tp_recover.proofs.Lower.{AllByRecursion, and_parts, Entry, areas_end, IsSpelt, entry_room, is_roomy, room, t414, t414_ends, Opened, opening, verdict, head_parts, reads_of, FitsRoom, Place, append_refusal, place_at, tail_refusal, group_fits_room, tail_fits_room}
 
 -- a device that opens has room for an entry
 opened_roomy : (bytes : List ℕ) (o : Opened) → opening t414 t414_ends bytes ≡ Ok o → is_roomy o.head.topology o.head.areas.length ≡ true

@@ -1,31 +1,11 @@
 -- The records of a cut, one kind after the other.
-use Rattle.std.proofs.Common.{◌≡◌, ℕ, zero, suc, ◌+◌, ◌-◌, ◌*◌, ◌≤◌, List, length, take, drop, refl, sym, ap, ◌∙◌, arith, subst}
-use Rattle.std.specs.Prelude.{Bool, Option, Result, Ok, Err, sum_by}
-use Rattle.std.proofs.lemmas.List.{drop-take, drop-drop, take-take}
-use Rattle.tp_model.specs.declared.areas.TwoAreas.{TwoAreas}
-use Rattle.tp_model.specs.declared.link.Token.{Token}
-use Rattle.tp_model.specs.declared.opening.OpenFault.{OpenFault}
-use Rattle.tp_model.specs.declared.wire.WireEnd.{WireEnd}
-use Rattle.tp_model.specs.declared.limits.TheConstants.{PORT_BYTES}
-use Rattle.tp_model.specs.CutImage.{nodes_in, lines_in, ports_in, port_with, or_damaged}
-use Rattle.tp_model.specs.Device.{area_start, content_of}
-use Rattle.tp_model.specs.Disk.{Moment}
-use Rattle.tp_model.specs.Flight.{flights_in}
-use Rattle.tp_model.specs.Journal.{cut_length, image_length}
-use Rattle.tp_model.specs.Network.{Network, Port}
-use Rattle.tp_model.specs.NodeState.{NodeState}
-use Rattle.tp_model.specs.Opening.{base_of, cut_in, lines_place, nodes_place, ports_place}
-use Rattle.tp_model.specs.Results.{◌>>=◌}
-use Rattle.tp_model.specs.Sound.{EndsSeen}
-use Rattle.tp_model.specs.Topology.{Topology, line_count}
-use Rattle.tp_law_device.proofs.Fronts.{front_shorter, whole_front}
-use Rattle.tp_law_device.proofs.Cuts.{nodes_same}
-use Rattle.tp_area.specs.declared.layout_place.Places.{Places}
+use Rattle.std.proofs.Common.{◌≡◌, ℕ, zero, suc, ◌+◌, ◌-◌, ◌*◌, ◌≤◌, List, length, take, drop, refl, sym, ap, ◌∙◌, arith, subst, Bool, Option, Ok, Err}
+use Rattle.std.specs.Prelude.{Result, sum_by}
+use Rattle.tp_recover.proofs.Lower.{drop-take, drop-drop, take-take, TwoAreas, Token, OpenFault, WireEnd, PORT_BYTES, nodes_in, lines_in, ports_in, port_with, or_damaged, area_start, content_of, Moment, flights_in, cut_length, image_length, Network, Port, NodeState, base_of, cut_in, lines_place, nodes_place, ports_place, ◌>>=◌, EndsSeen, Topology, line_count, front_shorter, whole_front, nodes_same, Places, port_with-take}
 use Rattle.tp_recover.specs.declared.unopened.Unopened.{Unopened}
 use Rattle.tp_recover.specs.Cuts.{records_at, three, wired}
 use Rattle.tp_recover.specs.Reading.{ReadAnswer}
 use Rattle.tp_recover.proofs.Passing.{passed}
-use Rattle.tp_area.proofs.Ports.{port_with-take}
 use Rattle.tp_recover.proofs.Records.{lines_in-take, with_first}
 
 -- ## Where a reading breaks off

@@ -1,23 +1,7 @@
 -- A network that a cut image can hold can be replayed from.
 use Rattle.std.proofs.Common.{◌≡◌, ℕ, ◌+◌, true, [], length, ◌∙◌, arith}
 use Rattle.std.specs.Prelude.{◌&&◌, nat_le}
-use Rattle.std.specs.List.{AllByRecursion}
-use Rattle.std.proofs.lemmas.Bool.{and_parts, leb-true}
-use Rattle.tp_model.specs.declared.limits.TheConstants.{MAX_HELD}
-use Rattle.tp_model.specs.NodeState.{NodeState}
-use Rattle.tp_model.specs.Node.{t414_ends}
-use Rattle.tp_model.specs.Network.{Port, Network}
-use Rattle.tp_model.specs.Sound.{EndsSeen}
-use Rattle.tp_model.specs.Topology.{Topology, is_topology}
-use Rattle.tp_model.specs.CutImage.{is_port_of}
-use Rattle.tp_model.specs.Spelling.{IsCut}
-use Rattle.tp_law_machine.specs.NodeOfBytes.{IsNodeOfBytes}
-use Rattle.tp_law_machine.proofs.Partial.{all_at}
-use Rattle.tp_book.specs.Counted.{IsCounted, AreCounted}
-use Rattle.tp_replay.specs.Flat.{IsFlat}
-use Rattle.tp_net.proofs.Topologies.{has_shape}
-use Rattle.tp_law_device.proofs.UnmarkedLines.{lines_unmarked}
-use Rattle.tp_law_device.proofs.CutsAreSound.{cut_nodes, cut_wires, cut_lines, cut_sound}
+use Rattle.tp_recover.proofs.Lower.{AllByRecursion, and_parts, leb-true, MAX_HELD, NodeState, t414_ends, Port, Network, EndsSeen, Topology, is_topology, is_port_of, IsCut, IsNodeOfBytes, all_at, IsCounted, AreCounted, IsFlat, has_shape, lines_unmarked, cut_nodes, cut_wires, cut_lines, cut_sound}
 use Rattle.tp_recover.proofs.HeldPorts.{EachPort, IsHeld}
 
 -- ## A network in one thread

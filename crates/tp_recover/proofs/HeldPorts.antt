@@ -1,21 +1,7 @@
 -- What each change of a port keeps, every entry keeps; so a port never holds more than it has room for.
 use Rattle.std.proofs.Common.{◌≡◌, ℕ, ◌+◌, ◌-◌, ◌≤◌, inl, inr, List, [], ◌∷◌, ◌++◌, length, set, drop, sym, ap, subst, ◌∙◌, arith, Option, Some, None, slice_get, length-append, length-drop}
-use Rattle.std.specs.Prelude.{nat_lt, nat_le, ◌&&◌, length}
-use Rattle.std.specs.Option.{option_map}
-use Rattle.std.proofs.lemmas.Bool.{cases_eq, ltb-true}
-use Rattle.tp_model.specs.declared.link.Token.{Token}
-use Rattle.tp_model.specs.declared.link.Token.TheVariants.{Data, Ack, Marker}
-use Rattle.tp_model.specs.declared.wire.WireEnd.{WireEnd}
-use Rattle.tp_model.specs.declared.wire.WireEnd.TheVariants.{Link, Port as AtPort}
-use Rattle.tp_model.specs.declared.entry.Entry.{Entry}
-use Rattle.tp_model.specs.declared.entry.Entry.TheVariants.{Run, Take, HostIn, Confirm, Turn}
-use Rattle.tp_model.specs.declared.limits.TheConstants.{MAX_STEPS, MAX_HELD}
-use Rattle.tp_model.specs.NodeState.{NodeState}
-use Rattle.tp_model.specs.Node.{t414, took}
-use Rattle.tp_model.specs.Network.{steps, Port, Network, Own, OfNode, OfHost, own, put, receiver, has_wire, sent}
-use Rattle.tp_model.specs.Entries.{process, of_node, of_port, receives, port_took, handed_in, confirmed, acked, first_only, in_flight, does, next}
-use Rattle.tp_law_network.proofs.Local.{step_of, own_host, port_step, turn_step}
-use Rattle.tp_law_network.proofs.Partial.{map_some, cond_some, slice_get-set_same, slice_get-set_other}
+use Rattle.std.specs.Prelude.{nat_lt, nat_le, ◌&&◌}
+use Rattle.tp_recover.proofs.Lower.{option_map, cases_eq, ltb-true, Token, Data, Ack, Marker, WireEnd, Link, AtPort, Entry, Run, Take, HostIn, Confirm, Turn, MAX_STEPS, MAX_HELD, NodeState, t414, took, steps, Port, Network, Own, OfNode, OfHost, own, put, receiver, has_wire, sent, process, of_node, of_port, receives, port_took, handed_in, confirmed, acked, first_only, in_flight, does, next, step_of, own_host, port_step, turn_step, map_some, cond_some, slice_get-set_same, slice_get-set_other}
 
 -- ## Of any property
 

@@ -1,8 +1,7 @@
 -- What a crash may leave since a reading began: only what one before it could.
-use Rattle.std.proofs.Common.{◌≡◌, Result, OnOk, OnErr, inr}
-use Rattle.tp_model.specs.Disk.{MayBe, Read, Sync, done}
-use Rattle.tp_model.specs.DiskHistory.{State, MomentPassed, Fails}
-use Rattle.tp_disk.proofs.Calls.{started, and_then, weaker, call_leaves}
+use Rattle.std.proofs.Common.{◌≡◌, OnOk, OnErr, inr}
+use Rattle.std.specs.Prelude.{Result}
+use Rattle.tp_recover.proofs.Lower.{MayBe, Read, Sync, done, State, MomentPassed, Fails, started, and_then, weaker, call_leaves}
 use Rattle.tp_recover.specs.Reading.{LeavesNothingNew}
 
 -- no call yet

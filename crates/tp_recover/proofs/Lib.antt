@@ -1,3 +1,4 @@
+pub mod Lower
 pub mod Ages
 pub mod Areas
 pub mod BookRoom

@@ -1,17 +1,7 @@
 -- Images that are read one after the other.
-use Rattle.std.proofs.Common.{◌≡◌, ℕ, ◌+◌, ◌*◌, ◌<◌, ◌≤◌, List, [], ◌∷◌, ◌++◌, length, take, drop, get_or, refl, sym, ap, ◌∙◌, arith, append-nil, Bool, true, false, cond, subst}
-use Rattle.std.specs.Prelude.{nat_eq, Some, None, Result, Ok, Err, sum_by}
-use Rattle.std.proofs.lemmas.Bool.{eq-eqb}
-use Rattle.std.proofs.lemmas.List.{take_all, take-append-drop, take-take, drop-take, drop-drop, drop_more, drop_all, length-drop}
-use Rattle.std.proofs.lemmas.List.Sums.{sum_by_more, sum_by_more_le}
-use Rattle.tp_model.specs.declared.limits.TheConstants.{IMAGE_HEAD_BYTES, PAGE_BYTES}
-use Rattle.tp_model.specs.CutImage.{node_with, nodes_in, only_if, or_damaged}
-use Rattle.tp_model.specs.Disk.{Moment}
-use Rattle.tp_model.specs.Image.{node_at, node_of, page_count}
-use Rattle.tp_model.specs.Journal.{image_length}
-use Rattle.tp_model.specs.NodeState.{NodeState}
-use Rattle.tp_model.specs.Results.{◌>>=◌}
-use Rattle.tp_node.specs.NodeContents.{NodeContents}
+use Rattle.std.proofs.Common.{◌≡◌, ℕ, ◌+◌, ◌*◌, ◌<◌, ◌≤◌, List, [], ◌∷◌, ◌++◌, length, take, drop, get_or, refl, sym, ap, ◌∙◌, arith, append-nil, Bool, true, false, cond, subst, Some, None, Ok, Err, length-drop}
+use Rattle.std.specs.Prelude.{nat_eq, Result, sum_by}
+use Rattle.tp_recover.proofs.Lower.{eq-eqb, take_all, take-append-drop, take-take, drop-take, drop-drop, drop_more, drop_all, sum_by_more, sum_by_more_le, IMAGE_HEAD_BYTES, PAGE_BYTES, node_with, nodes_in, only_if, or_damaged, Moment, node_at, node_of, page_count, image_length, NodeState, ◌>>=◌, NodeContents}
 use Rattle.tp_recover.specs.declared.unopened.Unopened.{Unopened}
 use Rattle.tp_recover.specs.Nodes.{AreAllThawed}
 use Rattle.tp_recover.specs.Reading.{ReadAnswer}

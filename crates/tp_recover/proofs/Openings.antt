@@ -1,21 +1,10 @@
 -- Opening a device, one part after the other.
-use Rattle.std.proofs.Common.{◌≡◌, ℕ, ◌+◌, Bool, List, refl, sym, ap, subst, ◌∙◌}
-use Rattle.std.specs.Prelude.{Result, Ok, Err}
-use Rattle.tp_model.specs.declared.form.Form.{Form}
-use Rattle.tp_model.specs.declared.opening.OpenFault.{OpenFault}
-use Rattle.tp_model.specs.Device.{area_start, content_of}
-use Rattle.tp_model.specs.Disk.{Moment}
-use Rattle.tp_model.specs.Head.{Head, head_of}
-use Rattle.tp_model.specs.Network.{Network}
-use Rattle.tp_model.specs.Node.{t414, t414_ends}
-use Rattle.tp_model.specs.NodeState.{NodeState}
-use Rattle.tp_model.specs.Opening.{Opened, base_of, chosen_area, closed_in, cut_in, front_in, area_in, opening, verdict}
-use Rattle.tp_model.specs.Replay.{Replay, after_rows, replay_from}
-use Rattle.tp_model.specs.Results.{◌>>=◌}
+use Rattle.std.proofs.Common.{◌≡◌, ℕ, ◌+◌, Bool, List, refl, sym, ap, subst, ◌∙◌, Ok, Err}
+use Rattle.std.specs.Prelude.{Result}
+use Rattle.tp_recover.proofs.Lower.{Form, OpenFault, area_start, content_of, Moment, Head, head_of, Network, t414, t414_ends, NodeState, Opened, base_of, chosen_area, closed_in, cut_in, front_in, area_in, opening, verdict, Replay, after_rows, replay_from, ◌>>=◌, cut_front}
 use Rattle.tp_recover.specs.declared.start.Start.{Start}
 use Rattle.tp_recover.specs.declared.unopened.Unopened.{Unopened}
 use Rattle.tp_recover.specs.AfterGroups.{after_groups}
-use Rattle.tp_area.specs.Fronts.{cut_front}
 use Rattle.tp_recover.specs.Reading.{ReadAnswer, found}
 use Rattle.tp_recover.specs.Starts.{Read, read_as, read_of, read_in, IsStart, groups_of, opened_with, opened_after}
 use Rattle.tp_recover.proofs.Passing.{passed}

@@ -1,13 +1,10 @@
 -- One reading after another: what the first one answers passes on.
-use Rattle.std.proofs.Common.{◌≡◌, ℕ, true, ap}
-use Rattle.std.specs.Prelude.{Result, Ok, Err}
-use Rattle.tp_model.specs.declared.opening.OpenFault.{OpenFault}
-use Rattle.tp_model.specs.Results.{◌>>=◌}
+use Rattle.std.proofs.Common.{◌≡◌, ℕ, true, ap, Ok, Err}
+use Rattle.std.specs.Prelude.{Result}
+use Rattle.tp_recover.proofs.Lower.{OpenFault, ◌>>=◌, Moment, Counts}
 use Rattle.tp_recover.specs.declared.unopened.Unopened.{Unopened}
 use Rattle.tp_recover.specs.declared.unopened.Unopened.TheVariants.{Fault, ReadFailed, Memory}
 use Rattle.tp_recover.specs.Reading.{ReadAnswer, LeavesAlone, found, has_read}
-use Rattle.tp_model.specs.Disk.{Moment}
-use Rattle.tp_model.specs.DiskHistory.{Counts}
 
 -- an error of the first is the answer of both
 pub passed : {A B C D : Type 0} (seen : A → B) (seen_then : C → D) (given : Result B OpenFault) (f : B → Result D OpenFault)

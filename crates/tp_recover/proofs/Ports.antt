@@ -1,16 +1,10 @@
 -- Ports that are read one after the other.
-use Rattle.std.proofs.Common.{◌≡◌, ℕ, suc, ◌+◌, ◌-◌, ◌*◌, ◌<◌, ◌≤◌, List, [], ◌∷◌, ◌++◌, take, drop, sym, ap, ◌∙◌, arith, append-nil, subst}
-use Rattle.std.specs.Prelude.{Option, Result, Ok, Err}
-use Rattle.std.proofs.lemmas.List.{drop-drop}
-use Rattle.tp_model.specs.declared.limits.TheConstants.{PORT_BYTES}
-use Rattle.tp_model.specs.CutImage.{port_with, ports_in, or_damaged}
-use Rattle.tp_model.specs.Disk.{Moment}
-use Rattle.tp_model.specs.Results.{◌>>=◌}
+use Rattle.std.proofs.Common.{◌≡◌, ℕ, suc, ◌+◌, ◌-◌, ◌*◌, ◌<◌, ◌≤◌, List, [], ◌∷◌, ◌++◌, take, drop, sym, ap, ◌∙◌, arith, append-nil, subst, Option, Ok, Err}
+use Rattle.std.specs.Prelude.{Result}
+use Rattle.tp_recover.proofs.Lower.{drop-drop, PORT_BYTES, port_with, ports_in, or_damaged, Moment, ◌>>=◌, Port, port_with-take}
 use Rattle.tp_recover.specs.declared.unopened.Unopened.{Unopened}
 use Rattle.tp_recover.specs.Reading.{ReadAnswer}
 use Rattle.tp_recover.proofs.Records.{behind, with_first, step_read, step_error}
-use Rattle.tp_model.specs.Network.{Port}
-use Rattle.tp_area.proofs.Ports.{port_with-take}
 
 -- what a reader found
 pub port_read : (at base : ℕ) (xs bytes : List ℕ) (read : Option Port) → bytes ≡ take PORT_BYTES (drop at xs) → read ≡ port_with base bytes

@@ -1,10 +1,7 @@
 -- Ranges that are copied one after the other are copied as one.
 use Rattle.std.proofs.Common.{◌≡◌, ℕ, ◌+◌, ◌≤◌, List, ◌++◌, length, take, drop, sym, ap, ◌∙◌, arith, length-drop}
-use Rattle.std.proofs.Math.Seq.{take-add}
-use Rattle.std.proofs.lemmas.List.{drop-drop, length-take-le}
-use Rattle.tp_area.proofs.PutLaws.{written_twice}
+use Rattle.tp_recover.proofs.Lower.{take-add, drop-drop, length-take-le, written_twice, written}
 use Rattle.tp_recover.specs.Copies.{with_range}
-use Rattle.tp_model.specs.Disk.{written}
 
 -- a piece more
 pub more_copied : (at done n : ℕ) (source old : List ℕ) → at + (done + n) ≤ length source → at ≤ length old

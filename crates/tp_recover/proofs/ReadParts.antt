@@ -1,25 +1,7 @@
 -- The parts of a cut that were read: what the tests of each record say.
 use Rattle.std.proofs.Common.{◌≡◌, ℕ, ◌+◌, ◌<◌, ◌≤◌, List, [], ◌∷◌, ◌++◌, length, take, get_or, sym, ap, subst, ◌∙◌, arith, true, Some, Ok}
 use Rattle.std.specs.Prelude.{◌==◌, ◌&&◌, bytes_eq}
-use Rattle.std.specs.List.{AllByRecursion}
-use Rattle.std.proofs.lemmas.Bool.{and_parts, eqb-true}
-use Rattle.std.proofs.lemmas.List.{map_push, take_more, take_all}
-use Rattle.tp_model.specs.declared.link.Token.{Token}
-use Rattle.tp_model.specs.declared.limits.TheConstants.{PORT_BYTES, NUMBER_LIMIT}
-use Rattle.tp_model.specs.CutImage.{is_port_of, node_with, port_at, port_bytes, port_with}
-use Rattle.tp_model.specs.Flight.{flights_in}
-use Rattle.tp_model.specs.Image.{page_count, node_of, IsNode}
-use Rattle.tp_model.specs.Journal.{image_length}
-use Rattle.tp_model.specs.Network.{Port}
-use Rattle.tp_model.specs.NodeState.{NodeState}
-use Rattle.tp_model.specs.Sound.{EndsSeen}
-use Rattle.tp_model.specs.Spelling.{are_lines, IsCut}
-use Rattle.tp_model.specs.Topology.{Topology, line_count}
-use Rattle.tp_law_network.proofs.InPlace.{flights_found}
-use Rattle.tp_law_device.proofs.Faults.{tested}
-use Rattle.tp_law_machine.proofs.Numbers.{AreBytes, are_bytes-take}
-use Rattle.tp_law_machine.specs.NodeOfBytes.{IsNodeOfBytes}
-use Rattle.tp_law_machine.proofs.Images.{node_of_bytes}
+use Rattle.tp_recover.proofs.Lower.{AllByRecursion, and_parts, eqb-true, map_push, take_more, take_all, Token, PORT_BYTES, NUMBER_LIMIT, is_port_of, node_with, port_at, port_bytes, port_with, flights_in, page_count, node_of, IsNode, image_length, Port, NodeState, EndsSeen, are_lines, IsCut, Topology, line_count, flights_found, tested, AreBytes, are_bytes-take, IsNodeOfBytes, node_of_bytes}
 use Rattle.tp_recover.specs.Cuts.{wired}
 use Rattle.tp_recover.specs.Nodes.{HasImage, HaveImages}
 use Rattle.tp_recover.specs.Ports.{ArePorts}

@@ -1,22 +1,10 @@
 -- Records that are read one after the other.
-use Rattle.std.proofs.Common.{◌≡◌, ℕ, ◌+◌, ◌*◌, ◌<◌, ◌≤◌, List, [], ◌∷◌, ◌++◌, length, take, drop, get_or, map, refl, sym, ap, ◌∙◌, arith, append_assoc, append-nil, subst}
-use Rattle.std.specs.Prelude.{Option, Some, None, Result, Ok, Err}
-use Rattle.std.specs.Option.{option_map}
-use Rattle.std.proofs.lemmas.List.{map_push, drop_more, drop_all}
-use Rattle.tp_model.specs.declared.link.Token.{Token}
-use Rattle.tp_model.specs.declared.opening.OpenFault.{OpenFault}
-use Rattle.tp_model.specs.declared.opening.OpenFault.TheVariants.{Damaged}
-use Rattle.tp_model.specs.declared.wire.WireEnd.{WireEnd}
-use Rattle.tp_model.specs.declared.limits.TheConstants.{LINE_BYTES}
-use Rattle.tp_model.specs.Results.{◌>>=◌}
-use Rattle.tp_law_device.proofs.Fronts.{front_shorter, whole_front}
-use Rattle.tp_law_device.proofs.Cuts.{line_same, lines_same}
-use Rattle.tp_area.specs.declared.line.LineTokens.{LineTokens}
-use Rattle.tp_area.specs.Lines.{tokens_on}
+use Rattle.std.proofs.Common.{◌≡◌, ℕ, ◌+◌, ◌*◌, ◌<◌, ◌≤◌, List, [], ◌∷◌, ◌++◌, length, take, drop, get_or, map, refl, sym, ap, ◌∙◌, arith, append_assoc, append-nil, subst, Option, Some, None, Ok, Err}
+use Rattle.std.specs.Prelude.{Result}
+use Rattle.tp_recover.proofs.Lower.{option_map, map_push, drop_more, drop_all, Token, OpenFault, Damaged, WireEnd, LINE_BYTES, ◌>>=◌, front_shorter, whole_front, line_same, lines_same, LineTokens, tokens_on, line_with, lines_in, or_damaged}
 use Rattle.tp_recover.specs.declared.unopened.Unopened.{Unopened}
 use Rattle.tp_recover.specs.Reading.{ReadAnswer}
 use Rattle.tp_recover.proofs.Passing.{passed}
-use Rattle.tp_model.specs.CutImage.{line_with, lines_in, or_damaged}
 
 -- what was read, before what is left
 abbrev pub behind : {A : Type 0} → List A → Result (List A) OpenFault → Result (List A) OpenFault

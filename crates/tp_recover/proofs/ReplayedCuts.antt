@@ -1,43 +1,7 @@
 -- What is replayed after a cut can be opened as a book.
-use Rattle.std.proofs.Common.{◌≡◌, ℕ, ◌-◌, ◌<◌, true, List, [], ◌∷◌, length, map, get_or, sym, ap, subst, ◌∙◌, arith, Some}
-use Rattle.std.specs.Prelude.{◌&&◌, nat_le, nat_lt, Ok}
-use Rattle.std.specs.List.{AllByRecursion}
-use Rattle.std.specs.Option.{option_map}
-use Rattle.std.proofs.lemmas.Bool.{and_parts, ltb-true}
-use Rattle.std.proofs.lemmas.Option.{slice_get-map, slice_get-get_or}
-use Rattle.tp_model.specs.declared.entry.Entry.{Entry}
-use Rattle.tp_model.specs.declared.form.Form.{Form}
-use Rattle.tp_model.specs.declared.limits.TheConstants.{NUMBER_LIMIT}
-use Rattle.tp_model.specs.NodeState.{NodeState}
-use Rattle.tp_model.specs.Image.{node_of}
-use Rattle.tp_model.specs.Node.{t414, t414_ends}
-use Rattle.tp_model.specs.Network.{Network, on_line}
-use Rattle.tp_model.specs.Entries.{next}
-use Rattle.tp_model.specs.EntryBytes.{AreOf, is_in_range}
-use Rattle.tp_model.specs.Markers.{markers, plain}
-use Rattle.tp_model.specs.Numbers.{AreNumbered}
-use Rattle.tp_model.specs.Order.{after}
-use Rattle.tp_model.specs.Sound.{Sound}
-use Rattle.tp_model.specs.Topology.{Topology, is_topology}
-use Rattle.tp_model.specs.CutImage.{or_damaged}
-use Rattle.tp_model.specs.Replay.{Replay, with_entry, is_number, after_row, after_rows, replay_from, row_entry}
-use Rattle.tp_model.specs.Spelling.{IsCut}
-use Rattle.tp_law_machine.specs.NodeOfBytes.{IsNodeOfBytes}
-use Rattle.tp_law_network.proofs.Partial.{all_append, map_some, cond_some}
-use Rattle.tp_law_device.proofs.Faults.{bind_ok, or_damaged_ok}
-use Rattle.tp_law_device.proofs.Replays.{entry_found}
-use Rattle.tp_book.specs.declared.port_parts.PortParts.{PortParts}
-use Rattle.tp_book.specs.declared.state.NetState.{NetState}
-use Rattle.tp_book.specs.Counted.{AreCounted}
-use Rattle.tp_book.specs.PortParts.{port_made}
-use Rattle.tp_book.specs.Kept.{AreInRange}
-use Rattle.tp_book.specs.Opened.{cut_of, now_of, IsWellOpen}
-use Rattle.tp_replay.specs.Flat.{IsFlat}
-use Rattle.tp_replay.specs.History.{IsHistory}
-use Rattle.tp_replay.proofs.Counted.{counted_next}
-use Rattle.tp_replay.proofs.Flat.{flat_next, markers_next}
-use Rattle.tp_replay.proofs.History.{history_of}
-use Rattle.tp_law_device.proofs.UnmarkedLines.{lines_unmarked, plain_lines}
+use Rattle.std.proofs.Common.{◌≡◌, ℕ, ◌-◌, ◌<◌, true, List, [], ◌∷◌, length, map, get_or, sym, ap, subst, ◌∙◌, arith, Some, Ok}
+use Rattle.std.specs.Prelude.{◌&&◌, nat_le, nat_lt}
+use Rattle.tp_recover.proofs.Lower.{AllByRecursion, option_map, and_parts, ltb-true, slice_get-map, slice_get-get_or, Entry, Form, NUMBER_LIMIT, NodeState, node_of, t414, t414_ends, Network, on_line, next, AreOf, is_in_range, markers, plain, AreNumbered, after, Sound, Topology, is_topology, or_damaged, Replay, with_entry, is_number, after_row, after_rows, replay_from, row_entry, IsCut, IsNodeOfBytes, all_append, map_some, cond_some, bind_ok, or_damaged_ok, entry_found, PortParts, NetState, AreCounted, port_made, AreInRange, cut_of, now_of, IsWellOpen, IsFlat, IsHistory, counted_next, flat_next, markers_next, history_of, lines_unmarked, plain_lines}
 use Rattle.tp_recover.proofs.HeldPorts.{EachPort, IsHeld, held_next}
 use Rattle.tp_recover.proofs.CutsAreFlat.{cut_flat, cut_counted, cut_held}
 use Rattle.tp_recover.proofs.Ranged.{entry_ranged, ranged_takes}

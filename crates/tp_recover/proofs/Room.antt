@@ -1,8 +1,6 @@
 -- What an area has room for.
 use Rattle.std.proofs.Common.{◌≡◌, ℕ, ◌+◌, ◌≤◌, arith, true}
-use Rattle.std.proofs.lemmas.Bool.{leb-true}
-use Rattle.tp_model.specs.Journal.{cut_length, is_roomy, reserve, entry_room, room}
-use Rattle.tp_model.specs.Topology.{Topology, line_count}
+use Rattle.tp_recover.proofs.Lower.{leb-true, cut_length, is_roomy, reserve, entry_room, room, Topology, line_count}
 
 -- its gate, the fields before its cut image, that image, and the gate after it
 pub area_room : (t : Topology) (area : ℕ) → is_roomy t area ≡ true → cut_length t + 46 ≤ area

@@ -1,30 +1,7 @@
 -- What was read of an area before its groups can be replayed from.
-use Rattle.std.proofs.Common.{◌≡◌, ℕ, zero, suc, ◌<◌, ◌≤◌, List, [], ◌∷◌, length, map, get_or, sym, ap, subst, ◌∙◌, arith, true, Option, Some, None, slice_get}
-use Rattle.std.specs.Prelude.{All, Bool, ◌+◌, ◌&&◌, Result, Ok, Err, Vec, vec_len}
-use Rattle.std.specs.declared.alloc.Global.{Global}
-use Rattle.std.proofs.lemmas.Bool.{and_parts, false≢true}
-use Rattle.tp_model.specs.declared.link.Token.{Token}
-use Rattle.tp_model.specs.declared.link.Token.TheVariants.{Data, Ack, Marker}
-use Rattle.tp_model.specs.declared.limits.TheConstants.{MAX_HELD}
-use Rattle.tp_model.specs.declared.wire.WireEnd.{WireEnd}
-use Rattle.tp_model.specs.Topology.{Topology}
-use Rattle.tp_model.specs.Results.{◌>>=◌}
-use Rattle.tp_model.specs.Device.{area_start, content_of}
-use Rattle.tp_model.specs.Disk.{Moment}
-use Rattle.tp_model.specs.Head.{Head}
-use Rattle.tp_model.specs.Node.{t414_ends}
-use Rattle.tp_model.specs.Opening.{base_of, cut_in, front_in}
-use Rattle.tp_model.specs.CutImage.{is_line_of}
-use Rattle.tp_model.specs.Spelling.{has_record, are_lines}
-use Rattle.tp_book.specs.declared.port_parts.PortParts.{PortParts}
-use Rattle.tp_book.specs.PortParts.{port_made}
-use Rattle.tp_book.specs.Ports.{PortValue, opened_port}
-use Rattle.tp_node.specs.NodeContents.{NodeContents}
-use Rattle.tp_replay.specs.Flat.{network_flat}
-use Rattle.tp_book.proofs.OpenedPorts.{opened_ports}
-use Rattle.tp_area.specs.declared.front.CutFront.{CutFront}
-use Rattle.tp_area.specs.Fronts.{cut_front, front_given}
-use Rattle.tp_law_device.proofs.Faults.{bind_ok}
+use Rattle.std.proofs.Common.{◌≡◌, ℕ, zero, suc, ◌<◌, ◌≤◌, List, [], ◌∷◌, length, map, get_or, sym, ap, subst, ◌∙◌, arith, true, Option, Some, None, slice_get, Bool, ◌+◌, Ok, Err, Vec}
+use Rattle.std.specs.Prelude.{All, ◌&&◌, Result, vec_len}
+use Rattle.tp_recover.proofs.Lower.{Global, and_parts, false≢true, Token, Data, Ack, Marker, MAX_HELD, WireEnd, Topology, ◌>>=◌, area_start, content_of, Moment, Head, t414_ends, base_of, cut_in, front_in, is_line_of, has_record, are_lines, PortParts, port_made, PortValue, opened_port, NodeContents, network_flat, opened_ports, CutFront, cut_front, front_given, bind_ok}
 use Rattle.tp_recover.specs.declared.cut.Cut.{Cut}
 use Rattle.tp_recover.specs.declared.start.Start.{Start}
 use Rattle.tp_recover.specs.declared.unopened.Unopened.{Unopened}

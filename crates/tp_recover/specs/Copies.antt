@@ -1,11 +1,7 @@
 -- The bytes of a copy.
 use Rattle.std.specs.Prelude.{◌≡◌, ℕ, ◌+◌, ◌-◌, true, not, List, [], ◌∷◌, take, drop, Ok, Option, Some, None}
+use Rattle.tp_recover.specs.Lower.{area_front, area_start, Moment, Sync, done, written, Opened, next_of, verdict, GATE_CLOSED, GATE_OPEN}
 use Rattle.tp_recover.specs.declared.kept.Kept.{Kept}
-use Rattle.tp_area.specs.Fronts.{area_front}
-use Rattle.tp_model.specs.Device.{area_start}
-use Rattle.tp_model.specs.Disk.{Moment, Sync, done, written}
-use Rattle.tp_model.specs.Opening.{Opened, next_of, verdict}
-use Rattle.tp_model.specs.declared.limits.TheConstants.{GATE_CLOSED, GATE_OPEN}
 
 -- what of an opened device is copied
 abbrev pub area_kept : Opened → Kept

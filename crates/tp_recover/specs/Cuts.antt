@@ -1,15 +1,7 @@
 -- Cuts that were read.
 use Rattle.std.specs.Prelude.{ℕ, List, map, drop, Option, Result, Ok}
-use Rattle.tp_model.specs.declared.link.Token.{Token}
-use Rattle.tp_model.specs.declared.opening.OpenFault.{OpenFault}
-use Rattle.tp_model.specs.declared.wire.WireEnd.{WireEnd}
-use Rattle.tp_model.specs.CutImage.{nodes_in, lines_in, ports_in}
-use Rattle.tp_model.specs.Network.{Network, Port}
-use Rattle.tp_model.specs.NodeState.{NodeState}
-use Rattle.tp_model.specs.Results.{◌>>=◌}
-use Rattle.tp_book.specs.PortParts.{port_made}
+use Rattle.tp_recover.specs.Lower.{Token, OpenFault, WireEnd, nodes_in, lines_in, ports_in, Network, Port, NodeState, ◌>>=◌, port_made, Places}
 use Rattle.tp_recover.specs.declared.cut.Cut.{Cut}
-use Rattle.tp_area.specs.declared.layout_place.Places.{Places}
 use Rattle.tp_recover.specs.Nodes.{live_node}
 
 -- a network with `wires`

@@ -1,3 +1,4 @@
+pub mod Lower
 pub mod AfterGroups
 pub mod Before
 pub mod Chosen

@@ -1,10 +1,6 @@
 -- Nodes that were read.
 use Rattle.std.specs.Prelude.{◌≡◌, ℕ, List, [], ◌∷◌, None, map}
-use Rattle.std.specs.List.{AllByRecursion}
-use Rattle.tp_model.specs.Image.{page_count}
-use Rattle.tp_model.specs.NodeState.{NodeState}
-use Rattle.tp_law_machine.specs.NodeOfBytes.{IsNodeOfBytes}
-use Rattle.tp_node.specs.NodeContents.{NodeContents}
+use Rattle.tp_recover.specs.Lower.{AllByRecursion, page_count, NodeState, IsNodeOfBytes, NodeContents}
 
 abbrev pub live_node : NodeContents → NodeState
 live_node node = node.live

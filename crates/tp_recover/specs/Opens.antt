@@ -1,13 +1,6 @@
 -- What an opened device's fields mean, and what they keep.
 use Rattle.std.specs.Prelude.{◌+◌, ◌<◌, ◌≤◌}
-use Rattle.std.specs.List.{AllByRecursion}
-use Rattle.tp_model.specs.declared.limits.TheConstants.{AREA_HEAD_BYTES, NUMBER_LIMIT}
-use Rattle.tp_model.specs.Device.{area_start}
-use Rattle.tp_model.specs.Node.{t414_ends}
-use Rattle.tp_model.specs.Opening.{Opened}
-use Rattle.tp_model.specs.Replay.{replay_from}
-use Rattle.tp_model.specs.Spelling.{IsCut}
-use Rattle.tp_law_machine.specs.NodeOfBytes.{IsNodeOfBytes}
+use Rattle.tp_recover.specs.Lower.{AllByRecursion, AREA_HEAD_BYTES, NUMBER_LIMIT, area_start, t414_ends, Opened, replay_from, IsCut, IsNodeOfBytes}
 use Rattle.tp_recover.specs.declared.opening.Opened.TheInside.{Inside}
 use Rattle.tp_recover.specs.AfterGroups.{LeadsTo}
 

@@ -1,8 +1,6 @@
 -- A cut as its parts.
 use Rattle.std.specs.Prelude.{map}
-use Rattle.tp_model.specs.NodeState.{NodeState}
-use Rattle.tp_model.specs.Network.{Network}
-use Rattle.tp_book.specs.PortParts.{port_made}
+use Rattle.tp_recover.specs.Lower.{NodeState, Network, port_made}
 use Rattle.tp_recover.specs.declared.flights.CutParts.{CutParts}
 
 -- the network of the parts

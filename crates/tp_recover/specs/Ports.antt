@@ -1,8 +1,6 @@
 -- Ports that were read.
 use Rattle.std.specs.Prelude.{◌≡◌, true, ℕ, List}
-use Rattle.std.specs.List.{AllByRecursion}
-use Rattle.tp_model.specs.Network.{Port}
-use Rattle.tp_model.specs.CutImage.{is_port_of}
+use Rattle.tp_recover.specs.Lower.{AllByRecursion, Port, is_port_of}
 
 -- each is a port of a cut of `base` entries
 abbrev pub ArePorts : ℕ → List Port → Type 0

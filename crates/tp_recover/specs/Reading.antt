@@ -1,8 +1,6 @@
 -- What a reading of a device answers, and what it leaves.
 use Rattle.std.specs.Prelude.{◌≡◌, Bool, true, false, Result, Ok, Err}
-use Rattle.tp_model.specs.declared.opening.OpenFault.{OpenFault}
-use Rattle.tp_model.specs.Disk.{Moment, MayBe}
-use Rattle.tp_model.specs.DiskHistory.{State, LeavesOnly}
+use Rattle.tp_recover.specs.Lower.{OpenFault, Moment, MayBe, State, LeavesOnly}
 use Rattle.tp_recover.specs.declared.unopened.Unopened.{Unopened}
 use Rattle.tp_recover.specs.declared.unopened.Unopened.TheVariants.{Fault, ReadFailed, Memory}
 

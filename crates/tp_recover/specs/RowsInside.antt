@@ -1,9 +1,6 @@
 -- What was read of rows, in its fields.
 use Rattle.std.specs.Prelude.{◌≡◌, ◌+◌, ◌<◌, ◌≤◌, ℕ, true, length}
-use Rattle.std.specs.List.{AllByRecursion}
-use Rattle.tp_model.specs.declared.entry.Entry.{Entry}
-use Rattle.tp_model.specs.declared.limits.TheConstants.{NUMBER_LIMIT}
-use Rattle.tp_model.specs.EntryBytes.{is_in_range}
+use Rattle.tp_recover.specs.Lower.{AllByRecursion, Entry, NUMBER_LIMIT, is_in_range}
 use Rattle.tp_recover.specs.declared.rows.Rows.TheInside.{Inside}
 use Rattle.tp_recover.specs.RowsRead.{Rows}
 

@@ -1,22 +1,8 @@
 -- What is read of an area before its groups, and what is opened with them.
 use Rattle.std.specs.Prelude.{◌≡◌, ◌<◌, ℕ, ◌+◌, Bool, List, drop, Result, Ok}
-use Rattle.std.specs.List.{AllByRecursion}
-use Rattle.tp_model.specs.declared.opening.OpenFault.{OpenFault}
-use Rattle.tp_model.specs.declared.limits.TheConstants.{NUMBER_LIMIT}
-use Rattle.tp_model.specs.Device.{area_start}
-use Rattle.tp_model.specs.Head.{Head}
-use Rattle.tp_model.specs.Network.{Network}
-use Rattle.tp_model.specs.Node.{t414_ends}
-use Rattle.tp_model.specs.NodeState.{NodeState}
-use Rattle.tp_model.specs.Opening.{Opened, cut_in, groups_place}
-use Rattle.tp_model.specs.Replay.{Listing, Replay, listing, replay_from}
-use Rattle.tp_model.specs.Results.{◌>>=◌}
-use Rattle.tp_model.specs.Spelling.{IsCut}
-use Rattle.tp_law_machine.specs.NodeOfBytes.{IsNodeOfBytes}
-use Rattle.tp_area.specs.declared.front.CutFront.{CutFront}
+use Rattle.tp_recover.specs.Lower.{AllByRecursion, OpenFault, NUMBER_LIMIT, area_start, Head, Network, t414_ends, NodeState, Opened, cut_in, groups_place, Listing, Replay, listing, replay_from, ◌>>=◌, IsCut, IsNodeOfBytes, CutFront, front_given}
 use Rattle.tp_recover.specs.declared.start.Start.{Start}
 use Rattle.tp_recover.specs.AfterGroups.{after_groups}
-use Rattle.tp_area.specs.Fronts.{front_given}
 
 -- the fields before a cut, and the cut
 pub record Read : Type 0 where

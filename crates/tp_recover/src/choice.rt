@@ -1,11 +1,8 @@
 //! Which area opening chooses.
 
 ghost use Rattle.std.specs.Prelude.{◌≡◌, ◌+◌, ◌*◌, ◌^◌, ◌<◌, ◌≤◌, length};
-ghost use Rattle.tp_model.specs.DiskHistory.{Counts};
-ghost use Rattle.tp_model.specs.Device.{areas_end};
-ghost use Rattle.tp_model.specs.Opening.{choice, chosen_area};
+ghost use Rattle.tp_recover.specs.Lower.{Counts, areas_end, choice, chosen_area, area_front};
 ghost use Rattle.tp_recover.specs.Reading.{has_read, found, ReadAnswer, LeavesAlone, LeavesNothingNew, TakesNone};
-ghost use Rattle.tp_area.specs.Fronts.{area_front};
 
 use crate::device::read_array;
 use crate::unopened::Unopened;

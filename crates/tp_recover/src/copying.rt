@@ -17,11 +17,8 @@
 //! read them.
 
 ghost use Rattle.std.specs.Prelude.{◌≡◌, ◌+◌, ◌^◌, ◌≤◌, ◌<◌, ◌↔◌, IfOk, IsTrue, OnOk};
+ghost use Rattle.tp_recover.specs.Lower.{area_front, AREA_FRONT_BYTES, area_start, areas_end, AREA_HEAD_BYTES};
 ghost use Rattle.tp_recover.specs.Copies.{CopyAnswer, HasStayed, IsFinished, OpensAs, closed_copy, area_kept};
-ghost use Rattle.tp_area.specs.Fronts.{area_front};
-ghost use Rattle.tp_area.specs.declared.front.TheConstants.{AREA_FRONT_BYTES};
-ghost use Rattle.tp_model.specs.Device.{area_start, areas_end};
-ghost use Rattle.tp_model.specs.declared.limits.TheConstants.{AREA_HEAD_BYTES};
 ghost use Rattle.tp_recover.specs.Reading.{LeavesNothingNew};
 
 use crate::fault::CopyFault;

@@ -1,20 +1,8 @@
 //! The cut of an area.
 
 ghost use Rattle.std.specs.Prelude.{◌≡◌, ◌+◌, ◌*◌, ◌≤◌, ◌<◌, ◌^◌, ℕ, true, Ok, IfOk, map, length, sum_by};
-ghost use Rattle.std.specs.List.{AllByRecursion};
-ghost use Rattle.tp_law_machine.specs.NodeOfBytes.{IsNodeOfBytes};
-ghost use Rattle.tp_model.specs.Device.{area_start, areas_end, content_of};
-ghost use Rattle.tp_model.specs.DiskHistory.{Counts};
-ghost use Rattle.tp_model.specs.Flight.{flights_in};
-ghost use Rattle.tp_model.specs.Journal.{image_length};
-ghost use Rattle.tp_model.specs.Node.{t414_ends};
-ghost use Rattle.tp_model.specs.Opening.{base_of, cut_in};
-ghost use Rattle.tp_model.specs.Spelling.{are_lines, IsCut};
-ghost use Rattle.tp_model.specs.Topology.{line_count};
-ghost use Rattle.tp_model.specs.declared.limits.TheConstants.{NUMBER_LIMIT};
-ghost use Rattle.tp_book.specs.PortParts.{port_made};
+ghost use Rattle.tp_recover.specs.Lower.{AllByRecursion, IsNodeOfBytes, area_start, areas_end, content_of, Counts, flights_in, image_length, t414_ends, base_of, cut_in, are_lines, IsCut, line_count, NUMBER_LIMIT, port_made, tokens_on};
 ghost use Rattle.tp_recover.specs.Cuts.{network_of_cut, records_at};
-ghost use Rattle.tp_area.specs.Lines.{tokens_on};
 ghost use Rattle.tp_recover.specs.Nodes.{live_node, AreAllThawed, HaveImages};
 ghost use Rattle.tp_recover.specs.Ports.{ArePorts};
 ghost use Rattle.tp_recover.specs.Reading.{has_read, ReadAnswer, LeavesAlone, LeavesNothingNew};

@@ -1,10 +1,7 @@
 //! Whether a cut is one of a sound network.
 
 ghost use Rattle.std.specs.Prelude.{◌≡◌, ◌+◌, ◌*◌, ◌^◌, ◌<◌, ◌≤◌, length};
-ghost use Rattle.tp_model.specs.Network.{back, on_line};
-ghost use Rattle.tp_model.specs.Node.{t414_ends};
-ghost use Rattle.tp_model.specs.Sound.{datas, acks, end_waits, end_holds};
-ghost use Rattle.tp_model.specs.Flight.{is_in_one_place, flights_in};
+ghost use Rattle.tp_recover.specs.Lower.{back, on_line, t414_ends, datas, acks, end_waits, end_holds, is_in_one_place, flights_in};
 ghost use Rattle.tp_recover.specs.Parts.{network_of_parts};
 
 use tp_book::PortParts;

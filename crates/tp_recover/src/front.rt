@@ -1,9 +1,7 @@
 //! The fields before an area's node images.
 
 ghost use Rattle.std.specs.Prelude.{◌≡◌, ◌+◌, ◌*◌, ◌≤◌, ◌<◌, length, IfOk};
-ghost use Rattle.tp_model.specs.Device.{area_start, areas_end, content_of};
-ghost use Rattle.tp_model.specs.DiskHistory.{Counts};
-ghost use Rattle.tp_area.specs.Fronts.{front_given};
+ghost use Rattle.tp_recover.specs.Lower.{area_start, areas_end, content_of, Counts, front_given};
 ghost use Rattle.tp_recover.specs.Reading.{has_read, ReadAnswer, LeavesAlone, LeavesNothingNew, TakesNone};
 
 use crate::device::read_array;

@@ -1,11 +1,7 @@
 //! The head of a device.
 
 ghost use Rattle.std.specs.Prelude.{◌≡◌, ◌+◌, ◌*◌, ◌≤◌, ◌<◌, ◌^◌, length, take, true, Ok, IfOk};
-ghost use Rattle.tp_area.specs.Heads.{head_in, version_in};
-ghost use Rattle.tp_model.specs.Device.{areas_end};
-ghost use Rattle.tp_model.specs.Head.{head_length, head_of};
-ghost use Rattle.tp_model.specs.DiskHistory.{Counts};
-ghost use Rattle.tp_model.specs.declared.head.HeadVersion.TheVariants.{Wide};
+ghost use Rattle.tp_recover.specs.Lower.{head_in, version_in, areas_end, head_length, head_of, Counts, Wide};
 ghost use Rattle.tp_recover.specs.Reading.{has_read, ReadAnswer, LeavesAlone, LeavesNothingNew, TakesNone};
 
 use crate::device::read_array;

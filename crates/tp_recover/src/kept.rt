@@ -1,9 +1,8 @@
 //! What of a device is copied.
 
 ghost use Rattle.std.specs.Prelude.{◌≡◌, ◌+◌, ◌≤◌, ◌<◌, IsTrue, ◌↔◌};
+ghost use Rattle.tp_recover.specs.Lower.{area_start, areas_end, AREA_HEAD_BYTES};
 ghost use Rattle.tp_recover.specs.Copies.{area_kept};
-ghost use Rattle.tp_model.specs.Device.{area_start, areas_end};
-ghost use Rattle.tp_model.specs.declared.limits.TheConstants.{AREA_HEAD_BYTES};
 
 use crate::Opened;
 use tp_model::{Form, TwoAreas};

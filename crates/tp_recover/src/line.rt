@@ -1,12 +1,8 @@
 //! The lines of a cut.
 
 ghost use Rattle.std.specs.Prelude.{◌≡◌, ◌*◌, ◌+◌, ◌<◌, ◌≤◌, ◌^◌, true, map, length, drop, IfOk};
-ghost use Rattle.tp_model.specs.DiskHistory.{Counts};
-ghost use Rattle.tp_model.specs.CutImage.{lines_in};
-ghost use Rattle.tp_model.specs.Spelling.{are_lines};
-ghost use Rattle.tp_model.specs.declared.opening.OpenFault.{OpenFault};
+ghost use Rattle.tp_recover.specs.Lower.{Counts, lines_in, are_lines, OpenFault, tokens_on};
 ghost use Rattle.tp_recover.specs.declared.unopened.Unopened.{Unopened};
-ghost use Rattle.tp_area.specs.Lines.{tokens_on};
 ghost use Rattle.tp_recover.specs.Reading.{has_read, ReadAnswer, LeavesAlone, LeavesNothingNew};
 
 use crate::device::read_bytes;

@@ -1,9 +1,7 @@
 //! The nodes of a cut.
 
 ghost use Rattle.std.specs.Prelude.{◌≡◌, ◌+◌, ◌*◌, ◌≤◌, ◌<◌, ◌^◌, ◌++◌, ℕ, None, true, IfOk, map, length, drop, get_or, sum_by};
-ghost use Rattle.tp_model.specs.CutImage.{node_with, nodes_in, or_damaged};
-ghost use Rattle.tp_model.specs.DiskHistory.{Counts};
-ghost use Rattle.tp_model.specs.Journal.{image_length};
+ghost use Rattle.tp_recover.specs.Lower.{node_with, nodes_in, or_damaged, Counts, image_length};
 ghost use Rattle.tp_recover.specs.Nodes.{live_node, AreAllThawed, HasImage, HaveImages};
 ghost use Rattle.tp_recover.specs.Reading.{has_read, ReadAnswer, LeavesAlone, LeavesNothingNew};
 

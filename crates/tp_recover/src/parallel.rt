@@ -1,11 +1,7 @@
 //! Opening a device, each node by itself.
 
 ghost use Rattle.std.specs.Prelude.{◌≡◌, ◌^◌, ◌<◌, ◌≤◌, IfOk};
-ghost use Rattle.tp_model.specs.Device.{areas_end, content_of};
-ghost use Rattle.tp_model.specs.Disk.{Sync, done};
-ghost use Rattle.tp_model.specs.DiskHistory.{Counts};
-ghost use Rattle.tp_model.specs.Node.{t414, t414_ends};
-ghost use Rattle.tp_model.specs.Opening.{area_in, verdict};
+ghost use Rattle.tp_recover.specs.Lower.{areas_end, content_of, Sync, done, Counts, t414, t414_ends, area_in, verdict};
 ghost use Rattle.tp_recover.specs.Reading.{has_read, ReadAnswer, LeavesAlone, LeavesNothingNew};
 
 use crate::opening::{Opened, read_chosen};

@@ -1,8 +1,8 @@
 //! Bytes that go from one device to another one, each to its place.
 
 ghost use Rattle.std.specs.Prelude.{◌≡◌, ◌+◌, ◌^◌, ◌≤◌, ◌<◌, length, OnOk};
-ghost use Rattle.tp_recover.specs.Copies.{with_range};
 ghost use Rattle.tp_model.specs.Disk.{written};
+ghost use Rattle.tp_recover.specs.Copies.{with_range};
 ghost use Rattle.tp_recover.specs.Reading.{LeavesNothingNew};
 
 use crate::fault::CopyFault;

@@ -1,9 +1,7 @@
 //! Where the records of an area are on its device.
 
 ghost use Rattle.std.specs.Prelude.{◌≡◌, ◌+◌, ◌^◌, ◌<◌, true};
-ghost use Rattle.tp_model.specs.Device.{area_start};
-ghost use Rattle.tp_model.specs.Journal.{is_roomy};
-ghost use Rattle.tp_model.specs.Opening.{groups_place, lines_place, nodes_place, ports_place};
+ghost use Rattle.tp_recover.specs.Lower.{area_start, is_roomy, groups_place, lines_place, nodes_place, ports_place};
 
 use tp_area::{Head, Places, area_start};
 

@@ -1,10 +1,7 @@
 //! The ports of a cut.
 
 ghost use Rattle.std.specs.Prelude.{◌≡◌, true, ◌*◌, ◌+◌, ◌≤◌, ◌<◌, ◌^◌, IfOk, map, length, drop};
-ghost use Rattle.tp_book.specs.PortParts.{port_made};
-ghost use Rattle.tp_area.specs.Ports.{port_said as record_of};
-ghost use Rattle.tp_model.specs.CutImage.{is_port_of, or_damaged, port_with, ports_in};
-ghost use Rattle.tp_model.specs.DiskHistory.{Counts};
+ghost use Rattle.tp_recover.specs.Lower.{port_made, record_of, is_port_of, or_damaged, port_with, ports_in, Counts};
 ghost use Rattle.tp_recover.specs.Ports.{ArePorts};
 ghost use Rattle.tp_recover.specs.Reading.{has_read, ReadAnswer, LeavesAlone, LeavesNothingNew};
 

@@ -1,16 +1,7 @@
 //! Room for what a book gives.
 
 ghost use Rattle.std.specs.Prelude.{◌≡◌, ◌+◌, ◌<◌, ◌≤◌, ℕ, List, length, false, Some, None, Ok};
-ghost use Rattle.std.specs.List.{AllByRecursion};
-ghost use Rattle.tp_model.specs.declared.entry.Entry.{Entry};
-ghost use Rattle.tp_model.specs.EntryBytes.{IsSpelt};
-ghost use Rattle.tp_model.specs.Journal.{room};
-ghost use Rattle.tp_model.specs.Opening.{Opened, verdict};
-ghost use Rattle.tp_book.specs.Joined.{FitsRoom};
-ghost use Rattle.tp_area.specs.declared.place.Place.{Place};
-ghost use Rattle.tp_area.specs.Appended.{append_refusal};
-ghost use Rattle.tp_area.specs.Places.{place_at};
-ghost use Rattle.tp_area.specs.Tails.{tail_refusal};
+ghost use Rattle.tp_recover.specs.Lower.{AllByRecursion, Entry, IsSpelt, room, Opened, verdict, FitsRoom, Place, append_refusal, place_at, tail_refusal};
 
 /// What a book gives finds room in the store over its device, if the book is bound to the device's room (`Opened::journal_room`). Neither a
 /// group of the next entries, after those that the device holds, nor the tail of a whole cut is too long for the store. The function does

@@ -1,16 +1,11 @@
 //! The network of a cut, before the entries after it are replayed.
 
 ghost use Rattle.std.specs.Prelude.{◌≡◌, ◌+◌, ◌*◌, ◌≤◌, All, IfOk, vec_len};
-ghost use Rattle.tp_book.specs.PortParts.{port_made};
-ghost use Rattle.tp_model.specs.Device.{areas_end, content_of};
-ghost use Rattle.tp_model.specs.DiskHistory.{Counts};
-ghost use Rattle.tp_model.specs.declared.limits.TheConstants.{MAX_HELD};
-ghost use Rattle.tp_net.specs.declared.line.TheConstants.{LINE_TOKENS};
+ghost use Rattle.tp_recover.specs.Lower.{port_made, areas_end, content_of, Counts, MAX_HELD, LINE_TOKENS, IsFlat};
 ghost use Rattle.tp_recover.specs.Cuts.{network_of_cut};
 ghost use Rattle.tp_recover.specs.Nodes.{AreAllThawed};
 ghost use Rattle.tp_recover.specs.Reading.{has_read, ReadAnswer, LeavesAlone, LeavesNothingNew};
 ghost use Rattle.tp_recover.specs.Starts.{read_in, read_of, IsStart};
-ghost use Rattle.tp_replay.specs.Flat.{IsFlat};
 
 use crate::cut::{Cut, read_cut};
 use crate::front::read_front;

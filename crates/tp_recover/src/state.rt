@@ -1,9 +1,7 @@
 //! The state that a book is opened from.
 
 ghost use Rattle.std.specs.Prelude.{◌≡◌, if◌then◌else◌, Some, IfOk};
-ghost use Rattle.tp_book.specs.Opened.{cut_of, now_of, IsWellOpen};
-ghost use Rattle.tp_model.specs.Journal.{room};
-ghost use Rattle.tp_model.specs.Opening.{next_of};
+ghost use Rattle.tp_recover.specs.Lower.{cut_of, now_of, IsWellOpen, room, next_of};
 
 use crate::opening::Opened;
 use std::alloc::{AllocError, Global};

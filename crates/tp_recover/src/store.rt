@@ -1,12 +1,7 @@
 //! The store over a device that opened.
 
 ghost use Rattle.std.specs.Prelude.{◌≡◌, ◌+◌, ◌*◌, ◌^◌, ◌<◌, ◌≤◌, true, false, Ok, Err, IfOk};
-ghost use Rattle.tp_area.specs.Places.{place_at};
-ghost use Rattle.tp_model.specs.Device.{area_start, areas_end};
-ghost use Rattle.tp_model.specs.Disk.{Sync, done};
-ghost use Rattle.tp_model.specs.DiskHistory.{Counts};
-ghost use Rattle.tp_model.specs.Opening.{verdict};
-ghost use Rattle.tp_model.specs.declared.limits.TheConstants.{AREA_HEAD_BYTES};
+ghost use Rattle.tp_recover.specs.Lower.{place_at, area_start, areas_end, Sync, done, Counts, verdict, AREA_HEAD_BYTES};
 ghost use Rattle.tp_recover.specs.Reading.{ReadAnswer, LeavesNothingNew};
 ghost use Rattle.tp_recover.specs.declared.unopened.Unopened.TheVariants.{ReadFailed};
 

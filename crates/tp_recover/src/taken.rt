@@ -1,8 +1,7 @@
 //! An area, read whole before its entries are replayed.
 
 ghost use Rattle.std.specs.Prelude.{◌≤◌, IfOk};
-ghost use Rattle.tp_model.specs.Device.{areas_end, content_of};
-ghost use Rattle.tp_model.specs.DiskHistory.{Counts};
+ghost use Rattle.tp_recover.specs.Lower.{areas_end, content_of, Counts};
 ghost use Rattle.tp_recover.specs.Reading.{has_read, ReadAnswer, LeavesAlone, LeavesNothingNew};
 ghost use Rattle.tp_recover.specs.Taken.{taken_area, taken_of, IsTaken};
 

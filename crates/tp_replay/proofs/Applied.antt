@@ -1,23 +1,7 @@
 -- The fields of a flat network after an entry.
 use Rattle.std.proofs.Common.{◌≡◌, ℕ, ◌+◌, ◌*◌, ◌<◌, ◌≤◌, true, false, inl, inr, List, length, set, get_or, refl, sym, ap, subst, ◌∙◌, arith, Option, Some, None, slice_get}
 use Rattle.std.specs.Prelude.{is_some, Ok, Err}
-use Rattle.std.specs.Option.{option_map}
-use Rattle.std.specs.Vec.{with_item}
-use Rattle.std.proofs.lemmas.Bool.{true≢false, cases_eq}
-use Rattle.std.proofs.lemmas.List.{length-map, map-set}
-use Rattle.std.proofs.lemmas.Option.{slice_get-map, slice_get_past, slice_get_read}
-use Rattle.tp_model.specs.declared.link.Token.{Token}
-use Rattle.tp_model.specs.declared.entry.Entry.{Entry}
-use Rattle.tp_model.specs.NodeState.{NodeState}
-use Rattle.tp_model.specs.Node.{t414}
-use Rattle.tp_model.specs.Network.{◌>>=◌, Port, Network, has_wire, sent}
-use Rattle.tp_model.specs.Entries.{next}
-use Rattle.tp_law_network.proofs.Local.{next_from}
-use Rattle.tp_law_network.proofs.Partial.{slice_get-set_same, slice_get-set_other}
-use Rattle.tp_node.specs.NodeContents.{NodeContents}
-use Rattle.tp_book.specs.Ports.{PortValue}
-use Rattle.tp_book.specs.Sends.{on_lines}
-use Rattle.tp_book.specs.Room.{HasRoom}
+use Rattle.tp_replay.proofs.Lower.{option_map, with_item, true≢false, cases_eq, length-map, map-set, slice_get-map, slice_get_past, slice_get_read, Token, Entry, NodeState, t414, ◌>>=◌, Port, Network, has_wire, sent, next, next_from, slice_get-set_same, slice_get-set_other, NodeContents, PortValue, on_lines, HasRoom}
 use Rattle.tp_replay.specs.declared.network.FlatNetwork.TheInside.{Inside}
 use Rattle.tp_replay.specs.declared.fault.NotPossible.{NotPossible}
 use Rattle.tp_replay.specs.Answers.{AppliesEntry}

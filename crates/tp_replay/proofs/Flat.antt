@@ -1,33 +1,7 @@
 -- Every entry keeps what networks in one thread keep, and what it sends finds room.
 use Rattle.std.proofs.Common.{◌≡◌, ℕ, ◌<◌, ◌≤◌, inl, inr, List, [], ◌∷◌, ◌++◌, length, sym, ap, subst, ◌∙◌, arith, Option, Some, None, slice_get}
-use Rattle.std.specs.Prelude.{nat_lt, nat_le, ◌&&◌, length}
-use Rattle.std.specs.Option.{option_map}
-use Rattle.std.proofs.lemmas.Bool.{cases_eq}
-use Rattle.std.proofs.lemmas.Option.{slice_get_within}
-use Rattle.tp_model.specs.declared.link.Token.{Token}
-use Rattle.tp_model.specs.declared.wire.WireEnd.{WireEnd}
-use Rattle.tp_model.specs.declared.wire.WireEnd.TheVariants.{Link, Port as AtPort}
-use Rattle.tp_model.specs.declared.entry.Entry.{Entry}
-use Rattle.tp_model.specs.declared.entry.Entry.TheVariants.{Run, Take, HostIn, Confirm, Turn}
-use Rattle.tp_model.specs.declared.limits.TheConstants.{MAX_STEPS}
-use Rattle.tp_model.specs.NodeState.{NodeState}
-use Rattle.tp_model.specs.Node.{t414, t414_ends, took}
-use Rattle.tp_model.specs.Network.{steps, Port, Network, Own, OfNode, OfHost, own, receiver, has_wire, on_line}
-use Rattle.tp_model.specs.Turn.{by_link, took_all}
-use Rattle.tp_model.specs.Entries.{process, takes, of_node, of_port, receives, port_took, handed_in, confirmed, does, next}
-use Rattle.tp_model.specs.Markers.{markers}
-use Rattle.tp_law_network.proofs.Lines.{length_taken}
-use Rattle.tp_law_network.proofs.Local.{Step, step_of, next_from, own_node, own-node, port_step, turn_step, SameShape, step_shape, step_lines, step_own_same, step_own_other}
-use Rattle.tp_law_network.proofs.Partial.{bind_some, map_some, cond_some}
-use Rattle.tp_model.specs.Sound.{Sound}
-use Rattle.tp_law_network.proofs.Room.{line_room}
-use Rattle.tp_law_network.proofs.Plain.{step_markers}
-use Rattle.tp_law_network.proofs.Sound.{sound_kept}
-use Rattle.tp_law_machine.specs.NodeOfBytes.{CarriesByte, CarryBytes, IsNodeOfBytes}
-use Rattle.tp_law_machine.proofs.LinkLaws.{has_four_links, keeps_flight, never_marks}
-use Rattle.tp_law_machine.proofs.Nodes.{node_steps, node_took}
-use Rattle.tp_book.specs.Room.{HasRoom}
-use Rattle.tp_book.proofs.Sending.{room_before}
+use Rattle.std.specs.Prelude.{nat_lt, nat_le, ◌&&◌}
+use Rattle.tp_replay.proofs.Lower.{option_map, cases_eq, slice_get_within, Token, WireEnd, Link, AtPort, Entry, Run, Take, HostIn, Confirm, Turn, MAX_STEPS, NodeState, t414, t414_ends, took, steps, Port, Network, Own, OfNode, OfHost, own, receiver, has_wire, on_line, by_link, took_all, process, takes, of_node, of_port, receives, port_took, handed_in, confirmed, does, next, markers, length_taken, Step, step_of, next_from, own_node, own-node, port_step, turn_step, SameShape, step_shape, step_lines, step_own_same, step_own_other, bind_some, map_some, cond_some, Sound, line_room, step_markers, sound_kept, CarriesByte, CarryBytes, IsNodeOfBytes, has_four_links, keeps_flight, never_marks, node_steps, node_took, HasRoom, room_before}
 use Rattle.tp_replay.specs.Flat.{IsFlat, EntryTakesByte}
 
 -- ## The node whose entry it is

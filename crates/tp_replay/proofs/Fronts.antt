@@ -1,21 +1,6 @@
 -- A node can take the token at the front of a line that goes to it: in a sound network the end waits for it.
 use Rattle.std.proofs.Common.{◌≡◌, ℕ, ◌+◌, ◌*◌, ◌%◌, ◌<◌, ◌≤◌, true, false, length, drop, refl, sym, ap, ◌∙◌, arith, Some, IsSome, slice_get}
-use Rattle.tp_model.specs.declared.link.Token.{Token}
-use Rattle.tp_model.specs.declared.link.Token.TheVariants.{Data, Ack, Marker}
-use Rattle.tp_model.specs.declared.wire.WireEnd.TheVariants.{Link}
-use Rattle.tp_model.specs.NodeState.{NodeState}
-use Rattle.tp_model.specs.Node.{took, holds, waits, t414_ends}
-use Rattle.tp_model.specs.Network.{Network, OfNode, own, receiver, back, line_of, on_line, is_first}
-use Rattle.tp_model.specs.Markers.{is_marker}
-use Rattle.tp_model.specs.Sound.{datas, acks, owner, end_waits, end_holds}
-use Rattle.tp_model.specs.Word.{bit}
-use Rattle.std.specs.Option.{option_map}
-use Rattle.std.proofs.lemmas.Bool.{true≢false}
-use Rattle.tp_law_machine.proofs.Taking.{takes_data, takes_ack}
-use Rattle.tp_law_network.proofs.Lines.{first_is}
-use Rattle.tp_law_machine.proofs.Bits.{bit_none, bit_some, bit_small}
-use Rattle.tp_law_network.proofs.Local.{owner_of_link}
-use Rattle.tp_law_network.proofs.Sound.{end_waits_is, end_holds_is}
+use Rattle.tp_replay.proofs.Lower.{Token, Data, Ack, Marker, Link, NodeState, took, holds, waits, t414_ends, Network, OfNode, own, receiver, back, line_of, on_line, is_first, is_marker, datas, acks, owner, end_waits, end_holds, bit, option_map, true≢false, takes_data, takes_ack, first_is, bit_none, bit_some, bit_small, owner_of_link, end_waits_is, end_holds_is}
 use Rattle.tp_replay.specs.Flat.{IsFlat}
 use Rattle.tp_replay.proofs.Steps.{own_there}
 

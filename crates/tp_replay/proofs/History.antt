@@ -1,23 +1,8 @@
 -- What is replayed is a history: the kept entries lead from the cut's network to the one that is there.
-use Rattle.std.proofs.Common.{◌≡◌, ℕ, ◌+◌, ◌-◌, ◌≤◌, true, List, [], ◌∷◌, ◌++◌, length, map, refl, sym, ap, subst, ◌∙◌, arith, Option, Some, None, length-append}
+use Rattle.std.proofs.Common.{◌≡◌, ℕ, ◌+◌, ◌-◌, ◌≤◌, true, List, [], ◌∷◌, ◌++◌, length, map, refl, sym, ap, subst, ◌∙◌, arith, Option, Some, None}
 use Rattle.std.specs.Prelude.{Result, Ok, nat_le, nat_lt, ◌&&◌}
-use Rattle.std.specs.Option.{option_map, option_and_then}
-use Rattle.std.proofs.lemmas.Bool.{and_parts, leb-true}
-use Rattle.std.proofs.lemmas.List.{length-map, map-append}
-use Rattle.tp_model.specs.declared.entry.Entry.{Entry}
-use Rattle.tp_model.specs.declared.form.Form.{Form}
-use Rattle.tp_model.specs.declared.opening.OpenFault.{OpenFault}
-use Rattle.tp_model.specs.declared.limits.TheConstants.{NUMBER_LIMIT}
-use Rattle.tp_model.specs.Network.{Machine, Network}
-use Rattle.tp_model.specs.Entries.{next}
-use Rattle.tp_model.specs.Order.{after}
-use Rattle.tp_model.specs.Numbers.{AreNumbered}
+use Rattle.tp_replay.proofs.Lower.{length-append, option_map, option_and_then, and_parts, leb-true, length-map, map-append, Entry, Form, OpenFault, NUMBER_LIMIT, Machine, Network, next, after, AreNumbered, is_of, entry_at, only_if, or_damaged, Replay, row_entry, with_entry, is_number, after_entry, after_row, after_rows, replay_from, all_append, map_some, cond_some, after_last}
 use Rattle.tp_model.specs.Results.{◌>>=◌}
-use Rattle.tp_model.specs.EntryBytes.{is_of, entry_at}
-use Rattle.tp_model.specs.CutImage.{only_if, or_damaged}
-use Rattle.tp_model.specs.Replay.{Replay, row_entry, with_entry, is_number, after_entry, after_row, after_rows, replay_from}
-use Rattle.tp_law_network.proofs.Partial.{all_append, map_some, cond_some}
-use Rattle.tp_law_network.proofs.Reorder.{after_last}
 use Rattle.tp_replay.specs.History.{IsHistory}
 
 -- ## Numbers

@@ -1,11 +1,6 @@
 -- Images of a flat network's nodes spell its nodes again.
 use Rattle.std.proofs.Common.{◌≡◌, ℕ, zero, suc, List, [], ◌∷◌, Vec, Global, map, refl, sym, ap, ◌∙◌, Some, slice_get}
-use Rattle.std.proofs.lemmas.Simd.{map-map}
-use Rattle.tp_model.specs.NodeState.{NodeState}
-use Rattle.tp_model.specs.Image.{image, node_at, node_of}
-use Rattle.tp_model.specs.Network.{Network}
-use Rattle.tp_law_machine.specs.NodeOfBytes.{IsNodeOfBytes}
-use Rattle.tp_law_machine.proofs.Images.{node_at-image, node_of-image}
+use Rattle.tp_replay.proofs.Lower.{map-map, NodeState, image, node_at, node_of, Network, IsNodeOfBytes, node_at-image, node_of-image}
 use Rattle.tp_replay.specs.Flat.{IsFlat}
 
 -- each of the nodes has an image

@@ -1,26 +1,7 @@
 -- Each kind of entry, if it isn't possible.
 use Rattle.std.proofs.Common.{◌≡◌, ℕ, zero, suc, ◌<◌, true, false, List, [], ◌++◌, length, refl, sym, ap, ◌∙◌, arith, Option, Some, None, slice_get}
 use Rattle.std.specs.Prelude.{nat_lt, nat_le, ◌&&◌, is_some}
-use Rattle.std.specs.Option.{option_map}
-use Rattle.std.proofs.lemmas.Bool.{true≢false, and_from}
-use Rattle.tp_model.specs.declared.link.Token.{Token}
-use Rattle.tp_model.specs.declared.link.Token.TheVariants.{Marker}
-use Rattle.tp_model.specs.declared.link.Received.{Received}
-use Rattle.tp_model.specs.declared.wire.WireEnd.{WireEnd}
-use Rattle.tp_model.specs.declared.wire.WireEnd.TheVariants.{Port as AtPort}
-use Rattle.tp_model.specs.declared.entry.Entry.TheVariants.{Run, Take, HostIn, Confirm, Turn}
-use Rattle.tp_model.specs.declared.limits.TheConstants.{MAX_STEPS}
-use Rattle.tp_model.specs.NodeState.{NodeState}
-use Rattle.tp_model.specs.Node.{t414}
-use Rattle.tp_model.specs.Network.{◌>>=◌, Machine, steps, Port, Network, Own, OfNode, OfHost, own, receiver, process_at, on_line, is_first, taken}
-use Rattle.tp_model.specs.Turn.{by_link, by_line, comes_in, took_all}
-use Rattle.tp_model.specs.Entries.{process, takes, of_node, of_port, receives, port_took, handed_in, confirmed, does, next}
-use Rattle.tp_law_network.proofs.Local.{step_of, own_host, own_node, port_step, TurnStep, turn_step}
-use Rattle.tp_law_network.proofs.Turns.{turn_fronts}
-use Rattle.tp_law_network.proofs.Lines.{taken_cons}
-use Rattle.tp_law_network.proofs.Plain.{step_takes_unmarked}
-use Rattle.tp_law_network.proofs.Partial.{bind_some, map_some, cond_some}
-use Rattle.tp_law_machine.proofs.LinkLaws.{never_marks}
+use Rattle.tp_replay.proofs.Lower.{option_map, true≢false, and_from, Token, Marker, Received, WireEnd, AtPort, Run, Take, HostIn, Confirm, Turn, MAX_STEPS, NodeState, t414, ◌>>=◌, Machine, steps, Port, Network, Own, OfNode, OfHost, own, receiver, process_at, on_line, is_first, taken, by_link, by_line, comes_in, took_all, process, takes, of_node, of_port, receives, port_took, handed_in, confirmed, does, next, step_of, own_host, own_node, port_step, TurnStep, turn_step, turn_fronts, taken_cons, step_takes_unmarked, bind_some, map_some, cond_some, never_marks}
 
 -- what isn't some is none
 none_of : {A : Type 0} (o : Option A) → ((x : A) → o ≡ Some x → ⊥) → o ≡ None

@@ -1,3 +1,4 @@
+pub mod Lower
 pub mod Applied
 pub mod Counted
 pub mod Flat

@@ -1,12 +1,7 @@
 -- Tokens are taken off the fronts of their lines, one after the other.
 use Rattle.std.proofs.Common.{◌≡◌, ℕ, ◌+◌, ◌<◌, ◌≤◌, List, ◌∷◌, length, drop, get_or, sym, ap, ◌∙◌, add-one, drop-cons, Option, Some, IsSome}
 use Rattle.std.specs.Prelude.{is_some}
-use Rattle.std.proofs.lemmas.List.{drop_all}
-use Rattle.tp_model.specs.declared.link.Token.{Token}
-use Rattle.tp_model.specs.declared.wire.WireEnd.{WireEnd}
-use Rattle.tp_model.specs.Network.{taken}
-use Rattle.tp_model.specs.Turn.{by_line, incoming}
-use Rattle.tp_law_network.proofs.Lines.{line_there, taken_cons}
+use Rattle.tp_replay.proofs.Lower.{drop_all, Token, WireEnd, taken, by_line, incoming, line_there, taken_cons}
 use Rattle.tp_replay.proofs.Applied.{there_is}
 use Rattle.tp_replay.proofs.Steps.{without_front}
 

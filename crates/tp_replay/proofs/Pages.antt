@@ -1,10 +1,6 @@
 -- A memory read page by page.
 use Rattle.std.proofs.Common.{◌≡◌, ℕ, ◌+◌, ◌-◌, ◌*◌, ◌≤◌, List, [], ◌∷◌, ◌++◌, length, map, take, drop, sym, refl, ap, ◌∙◌, arith, append_assoc}
-use Rattle.std.proofs.lemmas.List.{take_all, take-append-drop, drop-take, take-take}
-use Rattle.tp_model.specs.declared.limits.TheConstants.{PAGE_BYTES}
-use Rattle.tp_model.specs.Image.{image}
-use Rattle.tp_node.specs.NodeContents.{NodeContents}
-use Rattle.tp_mem.specs.Contents.{page_of}
+use Rattle.tp_replay.proofs.Lower.{take_all, take-append-drop, drop-take, take-take, PAGE_BYTES, image, NodeContents, page_of}
 
 -- a number of pages and a number more
 take_both : (n m : ℕ) (xs : List ℕ) → take (n + m) xs ≡ take n xs ++ take m (drop n xs)

@@ -1,25 +1,6 @@
 -- A run of a node, of as many steps as it could make.
 use Rattle.std.proofs.Common.{◌≡◌, ℕ, zero, suc, ◌+◌, ◌*◌, ◌<◌, ◌≤◌, inl, inr, List, [], length, set, refl, sym, ap, subst, ◌∙◌, arith, Some, None, slice_get}
-use Rattle.std.specs.List.{AllByRecursion}
-use Rattle.std.specs.Option.{option_map}
-use Rattle.std.specs.Vec.{with_item}
-use Rattle.std.proofs.lemmas.List.{map-set}
-use Rattle.std.proofs.lemmas.Option.{slice_get-map, slice_get_within}
-use Rattle.tp_model.specs.declared.link.Token.{Token}
-use Rattle.tp_model.specs.declared.entry.Entry.TheVariants.{Run}
-use Rattle.tp_model.specs.declared.limits.TheConstants.{MAX_STEPS}
-use Rattle.tp_model.specs.NodeState.{NodeState}
-use Rattle.tp_model.specs.Node.{t414, node_step}
-use Rattle.tp_model.specs.Network.{Network, steps, has_wire, sent}
-use Rattle.tp_model.specs.Entries.{next}
-use Rattle.tp_law_network.proofs.Local.{steps_links}
-use Rattle.tp_law_network.proofs.Partial.{slice_get-set_same}
-use Rattle.tp_law_machine.proofs.LinkLaws.{has_four_links}
-use Rattle.tp_node.specs.NodeContents.{NodeContents}
-use Rattle.tp_book.specs.Sends.{on_lines}
-use Rattle.tp_book.specs.Room.{HasRoom}
-use Rattle.tp_book.proofs.Lists.{set_back}
-use Rattle.tp_book.proofs.Sending.{all_known}
+use Rattle.tp_replay.proofs.Lower.{AllByRecursion, option_map, with_item, map-set, slice_get-map, slice_get_within, Token, Run, MAX_STEPS, NodeState, t414, node_step, Network, steps, has_wire, sent, next, steps_links, slice_get-set_same, has_four_links, NodeContents, on_lines, HasRoom, set_back, all_known}
 use Rattle.tp_replay.specs.declared.network.FlatNetwork.TheInside.{Inside}
 use Rattle.tp_replay.specs.Answers.{LeavesShort, RanUpTo}
 use Rattle.tp_replay.specs.Flat.{IsFlat}

@@ -1,20 +1,7 @@
 -- What a turn takes is at the front of its lines exactly if it is link by link: links have lines of their own.
-use Rattle.std.proofs.Common.{◌≡◌, ◌≢◌, ℕ, ◌+◌, ◌*◌, ◌<◌, ◌≤◌, Bool, true, inl, inr, List, [], ◌∷◌, ◌++◌, length, map, drop, get_or, refl, sym, ap, subst, ◌∙◌, arith, add-one, drop-cons, append_assoc, Option, Some, None}
-use Rattle.std.specs.Prelude.{◌&&◌, is_some}
-use Rattle.std.specs.Cmp.{both_ways}
-use Rattle.std.specs.List.{AllByRecursion}
-use Rattle.std.proofs.lemmas.Bool.{and_parts, and_from, cases_eq, true≢false}
-use Rattle.std.proofs.lemmas.List.{length-append, length-map}
-use Rattle.tp_model.specs.declared.link.Token.{Token}
-use Rattle.tp_model.specs.declared.link.Received.{Received}
-use Rattle.tp_model.specs.declared.link.Received.TheVariants.{Nothing, JustData, JustAck, DataThenAck, AckThenData}
-use Rattle.tp_model.specs.declared.wire.WireEnd.{WireEnd}
-use Rattle.tp_model.specs.declared.wire.WireEnd.TheVariants.{Link}
-use Rattle.tp_model.specs.Network.{receiver, on_line, is_first, taken, for_line}
-use Rattle.tp_model.specs.Turn.{received, by_link, by_line, incoming, is_link, comes_in}
-use Rattle.tp_law_network.proofs.Lines.{first_is, is_first-cons, for_line-here, for_line-other, for_line-append, taken_from, on_taken}
-use Rattle.tp_law_network.proofs.Local.{link_is, comes_first}
-use Rattle.tp_law_network.proofs.Partial.{all_append}
+use Rattle.std.proofs.Common.{◌≡◌, ◌≢◌, ℕ, ◌+◌, ◌*◌, ◌<◌, ◌≤◌, true, inl, inr, List, [], ◌∷◌, ◌++◌, length, map, drop, get_or, refl, sym, ap, subst, ◌∙◌, arith, add-one, drop-cons, append_assoc, Option, Some, None}
+use Rattle.std.specs.Prelude.{Bool, ◌&&◌, is_some}
+use Rattle.tp_replay.proofs.Lower.{both_ways, AllByRecursion, and_parts, and_from, cases_eq, true≢false, length-append, length-map, Token, Received, Nothing, JustData, JustAck, DataThenAck, AckThenData, WireEnd, Link, receiver, on_line, is_first, taken, for_line, received, by_link, by_line, incoming, is_link, comes_in, first_is, is_first-cons, for_line-here, for_line-other, for_line-append, taken_from, on_taken, link_is, comes_first, all_append}
 use Rattle.tp_replay.specs.Stands.{starts_with, link_stands}
 
 -- ## One line

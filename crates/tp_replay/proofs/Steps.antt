@@ -1,25 +1,9 @@
 -- Each kind of entry, if it is possible: a step of the network.
 use Rattle.std.proofs.Common.{◌≡◌, ℕ, ◌+◌, ◌*◌, ◌<◌, ◌≤◌, true, cond, List, [], ◌∷◌, ◌++◌, length, map, set, drop, refl, ap, ◌∙◌, Some, None, slice_get}
 use Rattle.std.specs.Prelude.{nat_lt, nat_le, ◌&&◌}
-use Rattle.std.specs.Option.{option_map}
-use Rattle.std.proofs.lemmas.Bool.{and_from, cond-true, lt-ltb, le-leb}
-use Rattle.tp_model.specs.declared.link.Token.{Token}
-use Rattle.tp_model.specs.declared.link.Received.{Received}
-use Rattle.tp_model.specs.declared.wire.WireEnd.TheVariants.{Link, Port as AtPort}
-use Rattle.tp_model.specs.declared.entry.Entry.{Entry}
-use Rattle.tp_model.specs.declared.entry.Entry.TheVariants.{Run, Take, HostIn, Confirm, Turn}
-use Rattle.tp_model.specs.declared.limits.TheConstants.{MAX_STEPS}
-use Rattle.tp_model.specs.NodeState.{NodeState}
-use Rattle.tp_model.specs.Node.{t414, took}
-use Rattle.tp_model.specs.Network.{◌>>=◌, steps, Port, Network, OfNode, OfHost, own, put, receiver, has_wire, process_at, on_line, is_first, taken, sent}
-use Rattle.tp_model.specs.Turn.{by_link, comes_in, took_all, turned}
-use Rattle.tp_model.specs.Entries.{process, takes, of_node, receives, port_took, handed_in, confirmed, does}
-use Rattle.tp_law_network.specs.Turns.{IsFront}
-use Rattle.tp_law_network.proofs.Lines.{cons_taken}
-use Rattle.tp_law_network.proofs.Local.{Step, own-host}
+use Rattle.tp_replay.proofs.Lower.{option_map, and_from, cond-true, lt-ltb, le-leb, Token, Received, Link, AtPort, Entry, Run, Take, HostIn, Confirm, Turn, MAX_STEPS, NodeState, t414, took, ◌>>=◌, steps, Port, Network, OfNode, OfHost, own, put, receiver, has_wire, process_at, on_line, is_first, taken, sent, by_link, comes_in, took_all, turned, process, takes, of_node, receives, port_took, handed_in, confirmed, does, IsFront, cons_taken, Step, own-host}
 pub use Rattle.tp_book.proofs.Owns.{own_there}
-use Rattle.tp_book.proofs.Owns.{of_port-is}
-use Rattle.tp_book.specs.Sends.{on_lines}
+use Rattle.tp_replay.proofs.Lower.{of_port-is, on_lines}
 
 -- the lines without the front of one
 abbrev pub without_front : List (List Token) → ℕ → List (List Token)

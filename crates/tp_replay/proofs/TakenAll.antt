@@ -1,22 +1,7 @@
 -- A node takes the tokens of a turn, one after the other. In a flat network it can, if they are at the front of their lines.
 use Rattle.std.proofs.Common.{◌≡◌, ℕ, ◌+◌, ◌<◌, ◌≤◌, true, List, [], ◌∷◌, ◌++◌, length, drop, get_or, refl, sym, ap, subst, ◌∙◌, arith, add-one, drop-cons, append_assoc, append-nil, length-set, Option, Some, None, IsSome, slice_get}
 use Rattle.std.specs.Prelude.{is_some}
-use Rattle.std.specs.Option.{option_map}
-use Rattle.std.specs.List.{AllByRecursion}
-use Rattle.std.proofs.lemmas.List.{drop_all}
-use Rattle.tp_model.specs.declared.link.Token.{Token}
-use Rattle.tp_model.specs.declared.entry.Entry.TheVariants.{Take}
-use Rattle.tp_model.specs.NodeState.{NodeState}
-use Rattle.tp_model.specs.Node.{t414, took, on_link}
-use Rattle.tp_model.specs.Network.{◌>>=◌, Network, has_wire, taken, sent}
-use Rattle.tp_model.specs.Turn.{by_line, comes_in, incoming, took_all}
-use Rattle.tp_law_network.proofs.Lines.{taken_cons, taken-sent}
-use Rattle.tp_law_network.proofs.Local.{comes_first}
-use Rattle.tp_law_network.proofs.Marks.{AreUnmarked}
-use Rattle.tp_law_network.proofs.Partial.{all_append, bind_some, slice_get-set_same}
-use Rattle.tp_law_machine.specs.NodeOfBytes.{CarryBytes}
-use Rattle.tp_law_machine.proofs.LinkLaws.{has_four_links}
-use Rattle.tp_book.specs.Sends.{on_lines}
+use Rattle.tp_replay.proofs.Lower.{option_map, AllByRecursion, drop_all, Token, Take, NodeState, t414, took, on_link, ◌>>=◌, Network, has_wire, taken, sent, by_line, comes_in, incoming, took_all, taken_cons, taken-sent, comes_first, AreUnmarked, all_append, bind_some, slice_get-set_same, CarryBytes, has_four_links, on_lines}
 use Rattle.tp_replay.specs.Flat.{IsFlat}
 use Rattle.tp_replay.proofs.Applied.{there_is}
 use Rattle.tp_replay.proofs.Flat.{flat_step}

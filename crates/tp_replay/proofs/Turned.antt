@@ -1,31 +1,7 @@
 -- A turn of a node, of as many steps as it could make.
 use Rattle.std.proofs.Common.{◌≡◌, ℕ, zero, suc, ◌+◌, ◌*◌, ◌<◌, ◌≤◌, true, List, [], ◌∷◌, ◌++◌, length, refl, sym, ap, subst, ◌∙◌, arith, Some, None, IsSome, slice_get}
 use Rattle.std.specs.Prelude.{Bool, ◌&&◌, is_some, nat_lt, nat_le}
-use Rattle.std.specs.List.{AllByRecursion}
-use Rattle.std.specs.Option.{option_map}
-use Rattle.std.specs.Vec.{with_item}
-use Rattle.std.proofs.lemmas.Bool.{and_parts, leb-true, le-leb}
-use Rattle.std.proofs.lemmas.List.{map-append}
-use Rattle.std.proofs.lemmas.Option.{slice_get-map, slice_get_within}
-use Rattle.tp_model.specs.declared.link.Token.{Token}
-use Rattle.tp_model.specs.declared.link.Received.{Received}
-use Rattle.tp_model.specs.declared.entry.Entry.TheVariants.{Turn}
-use Rattle.tp_model.specs.declared.limits.TheConstants.{MAX_STEPS}
-use Rattle.tp_model.specs.NodeState.{NodeState}
-use Rattle.tp_model.specs.Node.{t414, node_step}
-use Rattle.tp_model.specs.Network.{Network, steps, has_wire, pushed, sent, taken}
-use Rattle.tp_model.specs.Turn.{by_link, by_line, comes_in, took_all}
-use Rattle.tp_model.specs.Entries.{takes}
-use Rattle.tp_law_network.specs.Turns.{IsFront}
-use Rattle.tp_law_network.proofs.Lines.{sent-append}
-use Rattle.tp_law_network.proofs.Local.{steps_links}
-use Rattle.tp_law_network.proofs.Plain.{unmarked_links}
-use Rattle.tp_law_machine.specs.NodeOfBytes.{CarryBytes}
-use Rattle.tp_law_machine.proofs.LinkLaws.{has_four_links}
-use Rattle.tp_node.specs.NodeContents.{NodeContents}
-use Rattle.tp_book.specs.Sends.{on_lines}
-use Rattle.tp_book.specs.Room.{HasRoom}
-use Rattle.tp_book.proofs.Sending.{all_known}
+use Rattle.tp_replay.proofs.Lower.{AllByRecursion, option_map, with_item, and_parts, leb-true, le-leb, map-append, slice_get-map, slice_get_within, Token, Received, Turn, MAX_STEPS, NodeState, t414, node_step, Network, steps, has_wire, pushed, sent, taken, by_link, by_line, comes_in, took_all, takes, IsFront, sent-append, steps_links, unmarked_links, CarryBytes, has_four_links, NodeContents, on_lines, HasRoom, all_known}
 use Rattle.tp_replay.specs.declared.network.FlatNetwork.TheInside.{Inside}
 use Rattle.tp_replay.specs.Answers.{TurnedUpTo}
 use Rattle.tp_replay.specs.Inside.{replay_state, IsInside}

@@ -1,13 +1,6 @@
 -- What a call that applies an entry answers and leaves.
 use Rattle.std.specs.Prelude.{◌≡◌, ◌⊎◌, ◌<◌, ◌≤◌, ℕ, List, Option, Some, None, Result, Ok, Err, slice_get}
-use Rattle.tp_model.specs.declared.entry.Entry.{Entry}
-use Rattle.tp_model.specs.declared.entry.Entry.TheVariants.{Run, Take, HostIn, Confirm, Turn}
-use Rattle.tp_model.specs.NodeState.{NodeState}
-use Rattle.tp_model.specs.declared.link.Token.{Token}
-use Rattle.tp_model.specs.declared.link.Received.{Received}
-use Rattle.tp_model.specs.Node.{t414, node_step}
-use Rattle.tp_model.specs.Network.{Network, steps}
-use Rattle.tp_model.specs.Entries.{next}
+use Rattle.tp_replay.specs.Lower.{Entry, Run, Take, HostIn, Confirm, Turn, NodeState, Token, Received, t414, node_step, Network, steps, next}
 use Rattle.tp_replay.specs.declared.fault.NotPossible.{NotPossible}
 
 -- The network after it, exactly if it is possible.

@@ -1,19 +1,7 @@
 -- What every network in one thread keeps.
 use Rattle.std.specs.Prelude.{◌≡◌, ◌≤◌, ◌<◌, ℕ, ◌+◌, ◌*◌, ◌^◌, List, length, map, Option, Some, None, slice_get}
-use Rattle.tp_model.specs.declared.link.Token.{Token}
-use Rattle.tp_model.specs.declared.wire.WireEnd.{WireEnd}
-use Rattle.tp_model.specs.declared.entry.Entry.{Entry}
-use Rattle.tp_model.specs.declared.entry.Entry.TheVariants.{Run, Take, HostIn, Confirm, Turn}
-use Rattle.tp_model.specs.NodeState.{NodeState}
-use Rattle.tp_model.specs.Node.{t414_ends}
-use Rattle.tp_model.specs.Network.{Network, Port, on_line}
-use Rattle.tp_model.specs.Sound.{Sound}
-use Rattle.tp_model.specs.Markers.{markers}
-use Rattle.tp_model.specs.declared.limits.TheConstants.{MAX_NODES, MAX_PORTS}
-use Rattle.tp_model.specs.Turn.{by_link}
-use Rattle.tp_law_machine.specs.NodeOfBytes.{CarriesByte, CarryBytes, IsNodeOfBytes}
-use Rattle.tp_node.specs.NodeContents.{NodeContents}
-use Rattle.tp_book.specs.Ports.{PortValue}
+use Rattle.tp_replay.specs.Lower.{Token, WireEnd, Entry, Run, Take, HostIn, Confirm, Turn, NodeState, t414_ends, Network, on_line, Sound, markers, MAX_NODES, MAX_PORTS, by_link, CarriesByte, CarryBytes, IsNodeOfBytes, NodeContents, PortValue}
+use Rattle.tp_model.specs.Network.{Port}
 
 -- A line for each link and each port, and at most as many nodes and ports as a network may have.
 pub record HasFlatShape (s : Network NodeState) : Type 0 where

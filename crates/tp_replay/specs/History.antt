@@ -1,11 +1,6 @@
 -- What is replayed after a cut.
 use Rattle.std.specs.Prelude.{◌≡◌, ℕ, ◌+◌, length, map, Some}
-use Rattle.tp_model.specs.declared.form.Form.{Form}
-use Rattle.tp_model.specs.EntryBytes.{AreOf}
-use Rattle.tp_model.specs.Network.{Machine, Network}
-use Rattle.tp_model.specs.Order.{after}
-use Rattle.tp_model.specs.Numbers.{AreNumbered}
-use Rattle.tp_model.specs.Replay.{Replay}
+use Rattle.tp_replay.specs.Lower.{Form, AreOf, Machine, Network, after, AreNumbered, Replay}
 
 -- The kept entries lead from the cut's network to the one that is there. Their numbers rise, and none is above its number in the journal.
 -- The next entry's number in the journal counts them all. An area of this form may hold each.

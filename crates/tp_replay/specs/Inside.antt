@@ -1,6 +1,5 @@
 -- A flat network's fields: what they mean, and what they keep.
-use Rattle.tp_model.specs.NodeState.{NodeState}
-use Rattle.tp_model.specs.Network.{Network}
+use Rattle.tp_replay.specs.Lower.{NodeState, Network}
 use Rattle.tp_replay.specs.declared.network.FlatNetwork.TheInside.{Inside}
 use Rattle.tp_replay.specs.Flat.{IsFlat, AreThawed, network_flat}
 

@@ -1,10 +1,6 @@
 -- A network read out as its parts.
 use Rattle.std.specs.Prelude.{◌≡◌, map}
-use Rattle.tp_model.specs.NodeState.{NodeState}
-use Rattle.tp_model.specs.Image.{image}
-use Rattle.tp_model.specs.Network.{Network}
-use Rattle.tp_book.specs.PortParts.{port_made}
-use Rattle.tp_book.specs.declared.parts.NetParts.{NetParts}
+use Rattle.tp_replay.specs.Lower.{NodeState, image, Network, port_made, NetParts}
 
 -- The parts are the network's, each node as its image.
 pub record ArePartsOf (parts : NetParts) (s : Network NodeState) : Type 0 where

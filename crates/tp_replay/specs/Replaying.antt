@@ -1,9 +1,6 @@
 -- What is replayed so far, in its fields.
 use Rattle.std.specs.Prelude.{◌<◌}
-use Rattle.tp_model.specs.declared.limits.TheConstants.{NUMBER_LIMIT}
-use Rattle.tp_model.specs.NodeState.{NodeState}
-use Rattle.tp_model.specs.Replay.{Replay}
-use Rattle.tp_book.specs.Counted.{AreCounted}
+use Rattle.tp_replay.specs.Lower.{NUMBER_LIMIT, NodeState, Replay, AreCounted}
 use Rattle.tp_replay.specs.declared.replaying.Replay.TheInside.{Inside}
 
 abbrev pub replay_of : Inside → Replay NodeState

@@ -1,9 +1,6 @@
 -- The tokens at the front of a line.
 use Rattle.std.specs.Prelude.{ℕ, Bool, true, ◌&&◌, List, [], ◌∷◌, drop, Option}
-use Rattle.tp_model.specs.declared.link.Token.{Token}
-use Rattle.tp_model.specs.declared.wire.WireEnd.{WireEnd}
-use Rattle.tp_model.specs.Network.{receiver, on_line, is_first}
-use Rattle.tp_model.specs.Turn.{incoming, is_link}
+use Rattle.tp_replay.specs.Lower.{Token, WireEnd, receiver, on_line, is_first, incoming, is_link}
 
 -- the tokens are the first of the line
 abbrev pub starts_with : List Token → List Token → Bool

@@ -1,10 +1,7 @@
 //! What can be taken.
 
 ghost use Rattle.std.specs.Prelude.{◌≡◌, ◌<◌, ℕ, IsTrue, List, length, Some, is_some, ◌&&◌, not, slice_get};
-ghost use Rattle.tp_model.specs.Entries.{port_took, handed_in, confirmed};
-ghost use Rattle.tp_model.specs.Markers.{is_marker};
-ghost use Rattle.tp_model.specs.Network.{is_first};
-ghost use Rattle.tp_model.specs.declared.link.Token.{Token};
+ghost use Rattle.tp_replay.specs.Lower.{port_took, handed_in, confirmed, is_marker, is_first, Token};
 
 use tp_book::HostPort;
 use tp_model::Token;

@@ -1,9 +1,7 @@
 //! What the host does at ports.
 
 ghost use Rattle.std.specs.Prelude.{◌≡◌, OnErr};
-ghost use Rattle.tp_model.specs.declared.entry.Entry.TheVariants.{HostIn, Confirm};
-ghost use Rattle.tp_model.specs.Entries.{next};
-ghost use Rattle.tp_model.specs.Node.{t414};
+ghost use Rattle.tp_replay.specs.Lower.{HostIn, Confirm, next, t414};
 ghost use Rattle.tp_replay.specs.Answers.{AppliesEntry};
 
 use crate::fault::NotPossible;

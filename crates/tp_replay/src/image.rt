@@ -1,8 +1,7 @@
 //! Nodes as images.
 
 ghost use Rattle.std.specs.Prelude.{◌≡◌, ◌++◌, Some, None, IfOk, OnOk, map};
-ghost use Rattle.tp_model.specs.Image.{image};
-ghost use Rattle.tp_model.specs.NodeState.{NodeState};
+ghost use Rattle.tp_replay.specs.Lower.{image, NodeState};
 ghost use Rattle.tp_replay.specs.Flat.{AreThawed};
 
 use std::alloc::{AllocError, Global};

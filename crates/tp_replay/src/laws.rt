@@ -1,20 +1,7 @@
 //! Laws that the calls need. The functions do nothing; their contracts are the laws.
 
 ghost use Rattle.std.specs.Prelude.{◌≡◌, ◌<◌, ◌+◌, ◌*◌, ℕ, List, [], ◌++◌, length, false, true, Some, None, Ok, Err, IsSome, slice_get};
-ghost use Rattle.tp_model.specs.declared.entry.Entry.{Entry};
-ghost use Rattle.tp_model.specs.declared.link.Token.{Token};
-ghost use Rattle.tp_model.specs.declared.wire.WireEnd.TheVariants.{Link};
-ghost use Rattle.tp_model.specs.declared.form.Form.{Form};
-ghost use Rattle.tp_model.specs.NodeState.{NodeState};
-ghost use Rattle.tp_model.specs.Entries.{next};
-ghost use Rattle.tp_model.specs.Markers.{is_marker, markers};
-ghost use Rattle.tp_model.specs.Network.{Network, receiver, has_wire, on_line, is_first};
-ghost use Rattle.tp_model.specs.Node.{t414, t414_ends, took};
-ghost use Rattle.tp_model.specs.Flight.{flights_in};
-ghost use Rattle.tp_model.specs.Sound.{Wired, Sound};
-ghost use Rattle.tp_book.specs.Counted.{AreCounted};
-ghost use Rattle.tp_model.specs.declared.opening.OpenFault.{OpenFault};
-ghost use Rattle.tp_model.specs.Replay.{Replay, after_rows, replay_from};
+ghost use Rattle.tp_replay.specs.Lower.{Entry, Token, Link, Form, NodeState, next, is_marker, markers, Network, receiver, has_wire, on_line, is_first, t414, t414_ends, took, flights_in, Wired, Sound, AreCounted, OpenFault, Replay, after_rows, replay_from};
 ghost use Rattle.tp_replay.specs.Flat.{IsFlat, EntryTakesByte};
 ghost use Rattle.tp_replay.specs.History.{IsHistory};
 

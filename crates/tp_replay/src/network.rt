@@ -20,8 +20,7 @@ pub struct FlatNetwork {
 }
 
 impl Model for FlatNetwork {
-    ghost use Rattle.tp_model.specs.NodeState.{NodeState};
-    ghost use Rattle.tp_model.specs.Network.{Network};
+    ghost use Rattle.tp_replay.specs.Lower.{NodeState, Network};
 
     ghost Value = { Network NodeState };
 

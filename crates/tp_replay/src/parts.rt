@@ -1,10 +1,7 @@
 //! A flat network read out.
 
 ghost use Rattle.std.specs.Prelude.{◌≡◌, ◌<◌, IfOk, Some, length, map, slice_get};
-ghost use Rattle.std.specs.Option.{option_map};
-ghost use Rattle.tp_model.specs.Image.{image, node_at, node_of};
-ghost use Rattle.tp_model.specs.Network.{on_line};
-ghost use Rattle.tp_book.specs.Parts.{network_made};
+ghost use Rattle.tp_replay.specs.Lower.{option_map, image, node_at, node_of, on_line, network_made};
 ghost use Rattle.tp_replay.specs.PartsOf.{ArePartsOf};
 
 use crate::image::{image_of, images_of, images_taken};

@@ -1,10 +1,7 @@
 //! What a turn takes.
 
 ghost use Rattle.std.specs.Prelude.{◌≡◌, ◌==◌, ◌&&◌, ◌++◌, ◌≤◌, ◌<◌, ◌^◌, [], IsSome, None, Some, is_some, length, map};
-ghost use Rattle.tp_model.specs.Network.{on_line, receiver, taken};
-ghost use Rattle.tp_model.specs.Node.{on_link, t414};
-ghost use Rattle.tp_model.specs.Turn.{by_line, by_link, comes_in, incoming, is_link, received, took_all};
-ghost use Rattle.tp_law_machine.specs.NodeOfBytes.{CarryBytes};
+ghost use Rattle.tp_replay.specs.Lower.{on_line, receiver, taken, on_link, t414, by_line, by_link, comes_in, incoming, is_link, received, took_all, CarryBytes};
 ghost use Rattle.tp_replay.specs.Stands.{link_stands, starts_with};
 
 use crate::front::stands_in_front;

@@ -1,10 +1,7 @@
 //! Runs of nodes.
 
 ghost use Rattle.std.specs.Prelude.{◌≡◌, ◌<◌, ◌≤◌, ◌&&◌, IsTrue, length, nat_lt, nat_le, OnErr};
-ghost use Rattle.tp_model.specs.declared.limits.TheConstants.{MAX_STEPS};
-ghost use Rattle.tp_model.specs.declared.entry.Entry.TheVariants.{Run};
-ghost use Rattle.tp_model.specs.Entries.{next};
-ghost use Rattle.tp_model.specs.Node.{t414};
+ghost use Rattle.tp_replay.specs.Lower.{MAX_STEPS, Run, next, t414};
 ghost use Rattle.tp_replay.specs.Answers.{AppliesEntry, LeavesShort, RanUpTo};
 
 use crate::fault::NotPossible;

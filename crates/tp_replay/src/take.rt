@@ -1,13 +1,7 @@
 //! Tokens that are taken.
 
 ghost use Rattle.std.specs.Prelude.{◌≡◌, ◌<◌, ℕ, Some, false, true, length, OnErr};
-ghost use Rattle.tp_model.specs.declared.entry.Entry.TheVariants.{Take};
-ghost use Rattle.tp_model.specs.declared.link.Token.TheVariants.{Data};
-ghost use Rattle.tp_model.specs.declared.wire.WireEnd.TheVariants.{Link, Port};
-ghost use Rattle.tp_model.specs.Entries.{next};
-ghost use Rattle.tp_model.specs.Markers.{is_marker};
-ghost use Rattle.tp_model.specs.Network.{is_first, on_line, receiver};
-ghost use Rattle.tp_model.specs.Node.{t414};
+ghost use Rattle.tp_replay.specs.Lower.{Take, Data, Link, Port, next, is_marker, is_first, on_line, receiver, t414};
 ghost use Rattle.tp_replay.specs.Answers.{AppliesEntry};
 ghost use Rattle.tp_replay.specs.Flat.{CanCount};
 

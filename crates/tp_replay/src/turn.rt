@@ -1,12 +1,7 @@
 //! Turns of nodes.
 
 ghost use Rattle.std.specs.Prelude.{◌≡◌, ◌&&◌, length, nat_lt, nat_le, OnErr};
-ghost use Rattle.tp_model.specs.declared.limits.TheConstants.{MAX_STEPS};
-ghost use Rattle.tp_model.specs.declared.entry.Entry.TheVariants.{Turn};
-ghost use Rattle.tp_model.specs.Entries.{next};
-ghost use Rattle.tp_model.specs.Node.{t414};
-ghost use Rattle.tp_model.specs.Turn.{by_link};
-ghost use Rattle.tp_law_network.specs.Turns.{IsFront};
+ghost use Rattle.tp_replay.specs.Lower.{MAX_STEPS, Turn, next, t414, by_link, IsFront};
 ghost use Rattle.tp_replay.specs.Answers.{AppliesEntry, LeavesShort, TurnedUpTo};
 
 use crate::fault::NotPossible;

@@ -1,9 +1,7 @@
 -- Which answer a device and a job give.
 use Rattle.std.proofs.Common.{◌≡◌, ◌<◌, ℕ, Bool, true, false, List, length, Option, Some, None, Result, Ok, Err, refl, subst}
 use Rattle.std.specs.Prelude.{IfErr}
-use Rattle.tp_model.specs.declared.opening.OpenFault.{OpenFault}
-use Rattle.tp_model.specs.Journal.{is_full_for_snapshot}
-use Rattle.tp_model.specs.Opening.{Opened}
+use Rattle.tp_run.proofs.Lower.{OpenFault, is_full_for_snapshot, Opened}
 use Rattle.tp_run.specs.Answered.{AnswerFor, FaultFor, OpenedFor}
 use Rattle.tp_run.specs.Compacted.{CompactAnswer, SaysLast}
 use Rattle.tp_run.specs.Faults.{ComesBegun}
@@ -17,7 +15,7 @@ use Rattle.tp_run.specs.declared.fault.RunFault.{RunFault}
 use Rattle.tp_run.specs.declared.fault.RunFault.TheVariants.{Opening, Spare, Port, OfferRefused, FlushFailed, OutputFailed, ConfirmRefused, LastFlushFailed, Unaccounted, Memory}
 use Rattle.tp_run.specs.declared.job.Job.{Job}
 
--- what isn't anything is nothing
+-- an option that has no value is `None`
 pub none_of : {A : Type 0} (o : Option A) → ((x : A) → o ≡ Some x → ⊥) → o ≡ None
 none_of None never = refl
 none_of (Some x) never = absurd (never x refl)

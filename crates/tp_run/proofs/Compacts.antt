@@ -1,24 +1,10 @@
 -- What is left of a device that was compacted.
 use Rattle.std.proofs.Common.{◌≡◌, ◌≤◌, List, [], ℕ, Bool, false, inl, inr, Result, Ok, Err, sym, ap, subst, ◌∙◌, arith}
 use Rattle.std.specs.Prelude.{IfOk}
-use Rattle.std.proofs.lemmas.Result.{IfOk-weaker}
-use Rattle.tp_model.specs.declared.opening.OpenFault.{OpenFault}
-use Rattle.tp_model.specs.NodeState.{NodeState}
-use Rattle.tp_model.specs.Network.{Network}
-use Rattle.tp_model.specs.Disk.{MayBe}
-use Rattle.tp_model.specs.DiskHistory.{State}
-use Rattle.tp_model.specs.Opening.{Opened, held_of, next_of, verdict}
-use Rattle.tp_model.specs.Runs.{World, reopened}
-use Rattle.tp_recover.specs.Reading.{LeavesNothingNew}
-use Rattle.tp_flush.specs.Known.{Began, Reached}
-use Rattle.tp_flush.specs.Flushing.{Flushing, Walked, position}
-use Rattle.tp_flush.specs.Follows.{Follows}
-use Rattle.tp_flush.proofs.Turns.{walked_stays}
-use Rattle.tp_flush.proofs.Follows.{number_is, read_alone, read_first, stored_follows, walked_either, walked_follows}
+use Rattle.tp_run.proofs.Lower.{IfOk-weaker, OpenFault, NodeState, Network, MayBe, State, Opened, held_of, next_of, verdict, World, reopened, LeavesNothingNew, Began, Reached, Flushing, Walked, position, Follows, walked_stays, number_is, read_alone, read_first, stored_follows, walked_either, walked_follows, FlushFault}
 use Rattle.tp_run.specs.declared.compacting.Compaction.{Compaction}
 use Rattle.tp_run.specs.declared.compacting.CompactFault.{CompactFault}
 use Rattle.tp_run.specs.declared.compacting.CompactFault.TheVariants.{Opening, NoGeneration, DeviceFailed, NotWhole, Memory}
-use Rattle.tp_flush.specs.declared.fault.FlushFault.{FlushFault}
 use Rattle.tp_flush.specs.declared.fault.FlushFault.TheVariants as flush
 use Rattle.tp_flush.specs.Ends.{Ended}
 use Rattle.tp_run.proofs.Failures.{refused_as}
@@ -73,7 +59,7 @@ opened_compacted start result old read new L same R = record {
       (λ done all opened is. all opened (subst (λ bytes. verdict bytes ≡ Ok opened) (sym same) is)) R.no_fewer;
 }
 
--- what was begun isn't answered as what wasn't
+-- an answer that tells whether a generation was left isn't the answer for a device that didn't open
 pub last_compacted : (r : Result Compaction CompactFault) (last : Bool) → SaysLast r last → StaysUnopened r → ⊥
 last_compacted (Ok done) last says unbegun = unbegun
 last_compacted (Err (Opening unopened)) last says unbegun = says

@@ -1,15 +1,9 @@
 -- How many calls of the device have failed.
-use Rattle.std.specs.Prelude.{if◌then◌else◌}
-use Rattle.std.proofs.Common.{◌≡◌, ℕ, ◌+◌, inl, inr, Bool, true, false, Result, Ok, Err, IsOk, IfErr, OnOk, MatchResult, refl, sym, ap, subst, ◌∙◌, arith}
-use Rattle.tp_model.specs.NodeState.{NodeState}
-use Rattle.tp_model.specs.WriteOrder.{Position, Broken, Resting}
-use Rattle.tp_recover.specs.declared.unopened.Unopened.{Unopened}
+use Rattle.std.specs.Prelude.{if◌then◌else◌, IfErr, MatchResult}
+use Rattle.std.proofs.Common.{◌≡◌, ℕ, ◌+◌, inl, inr, Bool, true, false, Result, Ok, Err, IsOk, OnOk, refl, sym, ap, subst, ◌∙◌, arith}
+use Rattle.tp_run.proofs.Lower.{NodeState, Position, Broken, Resting, Unopened}
 use Rattle.tp_recover.specs.declared.unopened.Unopened.TheVariants as why
-use Rattle.tp_recover.specs.Reading.{has_read}
-use Rattle.tp_flush.specs.declared.fault.FlushFault.{FlushFault}
-use Rattle.tp_flush.specs.declared.fault.FlushFault.TheVariants.{AreaFull, DeviceFailed, Memory, StoreBroken}
-use Rattle.tp_flush.specs.Ends.{Ended, Rested}
-use Rattle.tp_flush.specs.Flushing.{Flushing, position}
+use Rattle.tp_run.proofs.Lower.{has_read, FlushFault, AreaFull, DeviceFailed, Memory, StoreBroken, Ended, Rested, Flushing, position}
 use Rattle.tp_run.specs.declared.fault.RunFault.{RunFault}
 use Rattle.tp_run.specs.Failures.{CountsFailures, IsFlushFault, failed_to_open, failures_after, flush_fault_of}
 

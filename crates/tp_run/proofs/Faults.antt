@@ -1,16 +1,14 @@
 -- Faults of a run, and when they come.
 use Rattle.std.proofs.Common.{◌≡◌, ◌≤◌, Result, Ok, Err, ℕ, inl, inr, true, false, refl, sym, ap, subst, ◌∙◌}
 use Rattle.std.specs.Prelude.{IfErr}
-use Rattle.tp_model.specs.NodeState.{NodeState}
-use Rattle.tp_model.specs.WriteOrder.{Position}
-use Rattle.tp_flush.specs.Flushing.{position}
+use Rattle.tp_run.proofs.Lower.{NodeState, Position, position}
 use Rattle.tp_run.specs.declared.fault.RunFault.{RunFault}
 use Rattle.tp_run.specs.declared.fault.RunFault.TheVariants.{Opening, Spare, Port, OfferRefused, FlushFailed, OutputFailed, ConfirmRefused, LastFlushFailed, Unaccounted, Memory}
 use Rattle.tp_run.specs.Failures.{IsFlushFault, has_failed, is_failure}
 use Rattle.tp_run.specs.Faults.{ComesBegun, ComesBehind, IsLate, IsOfferFault, IsSilent, IsUnbegun}
 use Rattle.tp_run.specs.Prints.{ComesSilent, FaultPrints}
 
--- a run that was begun isn't answered as one that wasn't
+-- a run whose device opened, with nothing wrong in the job, has no answer that says otherwise
 pub begun_written : (r : Result ℕ RunFault) → IfErr r ComesBegun → IsUnbegun r → ⊥
 begun_written (Ok next) begun unbegun = unbegun
 begun_written (Err (Opening unopened)) begun unbegun = begun
@@ -24,7 +22,7 @@ begun_written (Err LastFlushFailed) begun unbegun = unbegun
 begun_written (Err Unaccounted) begun unbegun = unbegun
 begun_written (Err Memory) begun unbegun = unbegun
 
--- one that ends late isn't answered as a silent one
+-- a fault of printing isn't one that says that nothing was printed
 pub late_said : (r : Result ℕ RunFault) → IfErr r IsLate → IsSilent r → ⊥
 late_said (Ok next) late silent = silent
 late_said (Err (Opening unopened)) late silent = late
@@ -112,7 +110,7 @@ offer_unfailed LastFlushFailed offer = absurd offer
 offer_unfailed Unaccounted offer = refl
 offer_unfailed Memory offer = refl
 
--- once the input was handed in, the fault isn't that it was refused
+-- once the input was handed in, the fault isn't `OfferRefused`
 pub behind_unrefused : (fault : RunFault) (Needs : Type 0) → ComesBehind fault → fault ≡ OfferRefused → Needs
 behind_unrefused fault Needs behind is = absurd (subst ComesBehind is behind)
 

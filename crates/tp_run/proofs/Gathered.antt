@@ -1,12 +1,7 @@
 -- What the host's seat and those of workers have, together.
-use Rattle.std.proofs.Common.{◌≡◌, ℕ, List, [], ◌∷◌, ◌++◌, map, length, refl, sym, ap, subst, ◌∙◌, arith, zero, suc, Result, Ok, Err}
-use Rattle.std.specs.Prelude.{All, flat_map, IfOk}
-use Rattle.std.specs.List.{AllByRecursion}
-use Rattle.std.proofs.lemmas.List.{length-map}
-use Rattle.tp_model.specs.declared.entry.Entry.{Entry}
-use Rattle.tp_model.specs.NodeState.{NodeState}
-use Rattle.tp_model.specs.Network.{Network}
-use Rattle.tp_flush.specs.All.{AreAll}
+use Rattle.std.proofs.Common.{◌≡◌, ℕ, List, [], ◌∷◌, ◌++◌, length, refl, sym, ap, subst, ◌∙◌, arith, zero, suc, Result, Ok, Err}
+use Rattle.std.specs.Prelude.{map, All, flat_map, IfOk}
+use Rattle.tp_run.proofs.Lower.{AllByRecursion, length-map, Entry, NodeState, Network, AreAll}
 use Rattle.tp_run.specs.declared.job.Job.{Job}
 use Rattle.tp_run.specs.Accounted.{Accounted}
 use Rattle.tp_run.specs.Worked.{Worked}

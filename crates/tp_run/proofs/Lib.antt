@@ -1,3 +1,4 @@
+pub mod Lower
 pub mod Gathered
 pub mod Answered
 pub mod Failures

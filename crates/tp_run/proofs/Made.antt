@@ -1,18 +1,7 @@
 -- What is made of a device that opened.
 use Rattle.std.proofs.Common.{◌≡◌, ℕ, [], length, Option, sym, ap, ◌∙◌}
 use Rattle.std.specs.Prelude.{get_or}
-use Rattle.tp_model.specs.NodeState.{NodeState}
-use Rattle.tp_model.specs.Node.{t414_ends}
-use Rattle.tp_model.specs.Network.{Network, Port}
-use Rattle.tp_model.specs.Snapshot.{MarkedNetwork}
-use Rattle.tp_model.specs.Opening.{Opened, next_of}
-use Rattle.tp_model.specs.Spelling.{IsCut}
-use Rattle.tp_book.specs.declared.state.NetState.{NetState}
-use Rattle.tp_book.specs.Opened.{now_of, opened_book}
-use Rattle.tp_ready.specs.Seen.{RaiserValue}
-use Rattle.tp_shared.specs.Parted.{PartsValue}
-use Rattle.tp_flush.specs.Made.{IsMadeOf}
-use Rattle.tp_flush.proofs.Made.{next_is}
+use Rattle.tp_run.proofs.Lower.{NodeState, t414_ends, Network, Port, MarkedNetwork, Opened, next_of, IsCut, NetState, now_of, opened_book, RaiserValue, PartsValue, IsMadeOf, next_is}
 use Rattle.tp_run.specs.Outset.{outset_in, outset_of, outset_with}
 
 abbrev fresh : Port

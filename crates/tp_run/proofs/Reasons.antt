@@ -1,15 +1,7 @@
 -- Why input isn't handed in, and why outputs aren't confirmed.
 use Rattle.std.proofs.Common.{◌≡◌, ◌≤◌, ℕ, Bool, true, false, List, length, take, drop, Some, None, Result, Ok, Err, ap, subst, ◌∙◌, arith}
-use Rattle.std.proofs.lemmas.Bool.{le-ltb, true≢false}
-use Rattle.std.proofs.lemmas.List.{length-take}
 use Rattle.std.specs.Prelude.{◌==◌, if◌then◌else◌, nat_le, nat_lt}
-use Rattle.tp_book.specs.Book.{BookValue}
-use Rattle.tp_book.specs.Host.{accepted_of, port_in, room_of, shown_upto_of}
-use Rattle.tp_book.specs.Refusals.{is_journal_full}
-use Rattle.tp_work.specs.Answers.{RefusesFor}
-use Rattle.tp_work.specs.Offers.{offer_fault}
-use Rattle.tp_work.specs.Outputs.{confirm_fault}
-use Rattle.tp_work.specs.declared.host_fault.OfferFault.{OfferFault}
+use Rattle.tp_run.proofs.Lower.{le-ltb, true≢false, length-take, BookValue, accepted_of, port_in, room_of, shown_upto_of, is_journal_full, RefusesFor, offer_fault, confirm_fault, OfferFault}
 use Rattle.tp_work.specs.declared.host_fault.OfferFault.TheVariants as offer
 use Rattle.tp_work.specs.declared.host_fault.ConfirmFault.{ConfirmFault}
 use Rattle.tp_work.specs.declared.host_fault.ConfirmFault.TheVariants as confirm

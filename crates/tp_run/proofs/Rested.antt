@@ -1,28 +1,11 @@
--- What is left to do where the flusher's journal leads.
-use Rattle.std.proofs.Common.{◌≡◌, ℕ, ◌≤◌, [], ◌++◌, take, sym, ap, ◌∙◌, arith, append-nil, length-append, subst}
-use Rattle.std.specs.Prelude.{Result, Ok, Err, IfOk}
-use Rattle.std.proofs.lemmas.List.{take_all}
-use Rattle.tp_model.specs.NodeState.{NodeState}
-use Rattle.tp_model.specs.Node.{t414}
-use Rattle.tp_model.specs.Network.{Network}
-use Rattle.tp_model.specs.Markers.{plain_network}
-use Rattle.tp_model.specs.Order.{after}
-use Rattle.tp_model.specs.DiskHistory.{State}
-use Rattle.tp_model.specs.Opening.{Opened, held_of, verdict}
-use Rattle.tp_model.specs.Runs.{World, reopened}
-use Rattle.tp_book.specs.Book.{BookValue, next_in_book, world_of}
-use Rattle.tp_flush.specs.Ahead.{IsAheadOf}
-use Rattle.tp_flush.specs.Flushing.{Flushing, Walked}
-use Rattle.tp_flush.specs.Follows.{Follows}
-use Rattle.tp_flush.specs.Known.{Began}
-use Rattle.tp_flush.proofs.Follows.{stored_follows}
-use Rattle.tp_node.specs.declared.rest.Rest.{Rest}
-use Rattle.tp_node.specs.declared.rest.Rest.TheVariants.{Halted, Quiet, Busy}
+-- What is left to do in the network to which the flusher's journal leads.
+use Rattle.std.proofs.Common.{◌≡◌, ℕ, ◌≤◌, [], ◌++◌, take, sym, ap, ◌∙◌, arith, append-nil, length-append, subst, Result, Ok, Err}
+use Rattle.std.specs.Prelude.{IfOk}
+use Rattle.tp_run.proofs.Lower.{take_all, NodeState, t414, Network, plain_network, after, State, Opened, held_of, verdict, World, reopened, BookValue, next_in_book, world_of, IsAheadOf, Flushing, Walked, Follows, Began, stored_follows, Rest, Halted, Quiet, Busy, rest_in}
 use Rattle.tp_run.specs.declared.fault.RunFault.{RunFault}
 use Rattle.tp_run.specs.Rested.{LeadsToRest, RestsAt, SaysRest}
 use Rattle.tp_run.proofs.Shown.{nothing_in}
 use Rattle.tp_run.proofs.Runs.{if_both}
-use Rattle.tp_shared.specs.Resting.{rest_in}
 
 -- a book that the journal is all of
 leads_rest : (start : Network NodeState) (w : World NodeState) (b : BookValue) (next : ℕ) (rest : Rest) → IsAheadOf start w b → next ≤ w.mark → next_in_book b ≡ next → rest ≡ rest_in (plain_network (world_of b).live)

@@ -1,25 +1,7 @@
 -- What runs leave of a device.
 use Rattle.std.proofs.Common.{◌≡◌, ℕ, ◌≤◌, inl, inr, List, [], Option, Result, Ok, Err, refl, ap, subst, ◌∙◌, arith}
 use Rattle.std.specs.Prelude.{IfOk}
-use Rattle.std.proofs.lemmas.Result.{IfOk-weaker}
-use Rattle.tp_model.specs.declared.entry.Entry.{Entry}
-use Rattle.tp_model.specs.NodeState.{NodeState}
-use Rattle.tp_model.specs.Node.{t414}
-use Rattle.tp_model.specs.Network.{Network}
-use Rattle.tp_model.specs.Disk.{MayBe}
-use Rattle.tp_model.specs.DiskHistory.{State}
-use Rattle.tp_model.specs.DeviceAreas.{device_areas}
-use Rattle.tp_model.specs.Opening.{Opened, held_of, verdict}
-use Rattle.tp_model.specs.Runs.{World, reopened}
-use Rattle.tp_model.specs.Walks.{RecoversTo}
-use Rattle.tp_disk.proofs.Calls.{started}
-use Rattle.tp_recover.specs.Reading.{LeavesNothingNew}
-use Rattle.tp_shared.specs.Below.{AreBelow}
-use Rattle.tp_flush.specs.Known.{Began}
-use Rattle.tp_flush.specs.Flushing.{Flushing, Walked}
-use Rattle.tp_flush.specs.Follows.{Follows}
-use Rattle.tp_flush.specs.Settled.{RecoversWith, SlipsStand}
-use Rattle.tp_flush.proofs.Follows.{number_is, read_alone, read_first, stored_follows, walked_either, walked_follows}
+use Rattle.tp_run.proofs.Lower.{IfOk-weaker, Entry, NodeState, t414, Network, MayBe, State, device_areas, Opened, held_of, verdict, World, reopened, RecoversTo, started, LeavesNothingNew, AreBelow, Began, Flushing, Walked, Follows, RecoversWith, SlipsStand, number_is, read_alone, read_first, stored_follows, walked_either, walked_follows}
 use Rattle.tp_run.specs.declared.fault.RunFault.{RunFault}
 use Rattle.tp_run.specs.declared.job.Job.{Job}
 use Rattle.tp_run.specs.Input.{input_slips}

@@ -1,39 +1,12 @@
--- What is printed: outputs of a port in a book, and so if the flusher's journal leads.
+-- What is printed: outputs of a port in a book, and in the network to which the flusher's journal leads.
 use Rattle.std.proofs.Common.{◌≡◌, ℕ, ◌+◌, ◌-◌, ◌≤◌, inl, inr, Bool, true, false, cond, List, [], ◌∷◌, ◌++◌, length, take, drop, Option, Result, Ok, Err, refl, sym, ap, subst, ◌∙◌, arith, append-nil, length-append}
 use Rattle.std.specs.Prelude.{map, nat_le, IfOk}
-use Rattle.std.specs.List.{enumerate_from}
-use Rattle.std.proofs.lemmas.List.{take_all, take-take}
-use Rattle.std.specs.Io.KnownBytes.{Appends}
-use Rattle.tp_model.specs.declared.entry.Entry.{Entry}
-use Rattle.tp_model.specs.declared.entry.Entry.TheVariants.{Confirm}
-use Rattle.tp_model.specs.NodeState.{NodeState}
-use Rattle.tp_model.specs.Node.{t414}
-use Rattle.tp_model.specs.Network.{Network}
-use Rattle.tp_model.specs.Markers.{plain_network}
-use Rattle.tp_model.specs.Order.{after}
-use Rattle.tp_model.specs.DiskHistory.{State, moment}
-use Rattle.tp_model.specs.DeviceAreas.{device_areas}
-use Rattle.tp_model.specs.Runs.{World}
-use Rattle.tp_model.specs.Walks.{RecoversTo}
-use Rattle.tp_disk.proofs.Calls.{weaker}
-use Rattle.tp_law_network.proofs.Walks.{chain_leads}
-use Rattle.tp_book.specs.Book.{BookValue, next_in_book, world_of}
-use Rattle.tp_book.specs.Calls.{marks_of}
-use Rattle.tp_book.specs.Host.{after_confirm, port_in, shown_from, shown_of, shown_upto_of, with_confirmed}
-use Rattle.tp_book.specs.Acts.{confirm_entries}
-use Rattle.tp_book.specs.Covered.{ReceiptValue}
-use Rattle.tp_work.specs.Receipts.{IsFor}
-use Rattle.tp_flush.specs.Ahead.{IsAheadOf}
-use Rattle.tp_flush.specs.Known.{Reached}
-use Rattle.tp_flush.specs.Flushing.{Flushing, Walked}
-use Rattle.tp_flush.proofs.Kept.{reached_then}
-use Rattle.tp_flush.proofs.Turns.{walked_nowhere, walked_recovers, walked_stays}
+use Rattle.tp_run.proofs.Lower.{enumerate_from, take_all, take-take, Appends, Entry, Confirm, NodeState, t414, Network, plain_network, after, State, moment, device_areas, World, RecoversTo, weaker, chain_leads, BookValue, next_in_book, world_of, marks_of, after_confirm, port_in, shown_from, shown_of, shown_upto_of, with_confirmed, confirm_entries, ReceiptValue, IsFor, IsAheadOf, Reached, Flushing, Walked, reached_then, walked_nowhere, walked_recovers, walked_stays, recovers_less}
 use Rattle.tp_run.specs.declared.fault.RunFault.{RunFault}
 use Rattle.tp_run.specs.Output.{AreOutputs, AreShownBytes, IsForOutput, PrintedOf, ShowsAll, confirms}
 use Rattle.tp_run.specs.Outlet.{OutletValue, WasCalled}
 use Rattle.tp_run.specs.Prints.{MayBeSilent, PrintsAt, PrintsOf, PrintsSo, TellsAllPrinted}
 use Rattle.tp_run.specs.Shown.{AreShownIn, MayPrint, MayShow}
-use Rattle.tp_flush.proofs.Recovers.{recovers_less}
 use Rattle.tp_run.proofs.Slips.{confirms_shown}
 
 -- ## In the book

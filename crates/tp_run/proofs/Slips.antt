@@ -1,23 +1,7 @@
--- Slips of the host: their numbers, and where they are.
+-- Slips of the host: their numbers, and their places in the journal.
 use Rattle.std.proofs.Common.{◌≡◌, ℕ, ◌+◌, ◌-◌, ◌<◌, List, [], ◌∷◌, ◌++◌, length, take, drop, Option, Result, Ok, Err, sym, ap, subst, ◌∙◌, arith, cond, length-append}
 use Rattle.std.specs.Prelude.{nat_le, map, if◌then◌else◌, IfOk}
-use Rattle.std.specs.List.{AllByRecursion, enumerate_from}
-use Rattle.std.proofs.lemmas.Bool.{le-leb, lt-leb}
-use Rattle.std.proofs.lemmas.List.{length-take-le, length-map}
-use Rattle.std.proofs.lemmas.List.Sums.{count_by-le-length}
-use Rattle.tp_model.specs.declared.entry.Entry.{Entry}
-use Rattle.tp_model.specs.declared.entry.Entry.TheVariants.{Confirm, HostIn}
-use Rattle.tp_model.specs.NodeState.{NodeState}
-use Rattle.tp_model.specs.Network.{Network}
-use Rattle.tp_book.specs.Book.{BookValue, next_in_book}
-use Rattle.tp_book.specs.Host.{accepted_of, after_inputs, port_in, shown_from, shown_of, shown_upto_of}
-use Rattle.tp_book.specs.Calls.{marks_of}
-use Rattle.tp_book.specs.Acts.{confirm_entries}
-use Rattle.tp_book.specs.Covered.{ReceiptValue}
-use Rattle.tp_shared.proofs.Writing.{enumerated_below}
-use Rattle.tp_flush.specs.Settled.{SlipsStand}
-use Rattle.tp_flush.proofs.Settling.{below_more}
-use Rattle.tp_work.specs.Receipts.{IsFor}
+use Rattle.tp_run.proofs.Lower.{AllByRecursion, enumerate_from, le-leb, lt-leb, length-take-le, length-map, count_by-le-length, Entry, Confirm, HostIn, NodeState, Network, BookValue, next_in_book, accepted_of, after_inputs, port_in, shown_from, shown_of, shown_upto_of, marks_of, confirm_entries, ReceiptValue, enumerated_below, SlipsStand, below_more, IsFor}
 use Rattle.tp_run.specs.Accounted.{Accounted}
 use Rattle.tp_run.specs.declared.job.Job.{Job}
 use Rattle.tp_run.specs.declared.outset.Outset.{Outset}
@@ -82,7 +66,7 @@ input_offered b new outset input was now receipt S after number F =
           ∙ ap (λ n. outset.next + n) (length-map bytes (HostIn outset.port) ∙ ap length rest);
     }
 
--- the receipt of the rest of the input, if the port is as it did
+-- the receipt of the rest of the input, if the port is as noted
 pub offered_at : {E : Type 0} (b new : BookValue) (outset : Outset) (input : List ℕ) (was now : List (ℕ × Entry)) (r : Result ReceiptValue E) → StandsIn outset b
     → IfOk r (λ receipt. new ≡ after_inputs b outset.port (input_rest b outset.port input)) → IfOk r (λ receipt. receipt.number ≡ next_in_book new)
     → IfOk r (IsFor (map (HostIn outset.port) (input_rest b outset.port input)) was now) → IfOk r (IsForInput outset input was now)

@@ -1,12 +1,7 @@
 -- Turns, one more.
 use Rattle.std.proofs.Common.{ℕ, List, Result, Ok, Err}
 use Rattle.std.specs.Prelude.{MatchResult}
-use Rattle.tp_model.specs.declared.entry.Entry.{Entry}
-use Rattle.tp_model.specs.NodeState.{NodeState}
-use Rattle.tp_model.specs.Network.{Network}
-use Rattle.tp_work.specs.Turns.{Refused, Turned}
-use Rattle.tp_work.specs.declared.fault.TurnFault.{TurnFault}
-use Rattle.tp_work.specs.declared.turn.Turn.{Turn}
+use Rattle.tp_run.proofs.Lower.{Entry, NodeState, Network, Refused, Turned, TurnFault, Turn}
 use Rattle.tp_run.specs.Worked.{Worked, refused, turned}
 
 pub worked_on : (network : Network NodeState) (quantum : ℕ) (done : Result Turn TurnFault) (old new : List (ℕ × Entry)) → Worked network quantum old

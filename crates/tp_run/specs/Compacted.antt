@@ -1,20 +1,8 @@
--- What is left of a device that was compacted, whatever becomes of it meanwhile.
+-- What compacting leaves of a device, even if a crash ends it early.
 use Rattle.std.specs.Prelude.{◌≡◌, ◌≤◌, ◌⊎◌, ℕ, ◌+◌, Bool, true, false, List, Option, Some, None, Result, Ok, Err, IfOk}
-use Rattle.tp_model.specs.declared.entry.Entry.{Entry}
-use Rattle.tp_model.specs.declared.opening.OpenFault.{OpenFault}
-use Rattle.tp_model.specs.NodeState.{NodeState}
-use Rattle.tp_model.specs.Network.{Network}
-use Rattle.tp_model.specs.Topology.{Topology}
-use Rattle.tp_model.specs.Journal.{is_full_for_snapshot}
-use Rattle.tp_model.specs.Opening.{Opened, next_of, verdict}
-use Rattle.tp_model.specs.Disk.{MayBe}
-use Rattle.tp_model.specs.DiskHistory.{State, LeavesOnly}
-use Rattle.tp_book.specs.declared.refusal.Refusal.{Refusal}
+use Rattle.tp_run.specs.Lower.{Entry, OpenFault, NodeState, Network, Topology, is_full_for_snapshot, Opened, next_of, verdict, MayBe, State, LeavesOnly, Refusal}
 use Rattle.tp_book.specs.declared.refusal.Refusal.TheVariants as refusal
-use Rattle.tp_flush.specs.Follows.{Follows}
-use Rattle.tp_area.specs.Capacity.{journal_of}
-use Rattle.tp_recover.specs.EntriesLeft.{entries_left}
-use Rattle.tp_flush.specs.declared.fault.FlushFault.{FlushFault}
+use Rattle.tp_run.specs.Lower.{Follows, journal_of, entries_left, FlushFault}
 use Rattle.tp_flush.specs.declared.fault.FlushFault.TheVariants as flush
 use Rattle.tp_run.specs.Answered.{IsUnopened, OpenedWith}
 use Rattle.tp_run.specs.Failures.{failed_to_open}
@@ -22,26 +10,26 @@ use Rattle.tp_run.specs.declared.compacting.Compaction.{Compaction}
 use Rattle.tp_run.specs.declared.compacting.CompactFault.{CompactFault}
 use Rattle.tp_run.specs.declared.compacting.CompactFault.TheVariants.{Opening, NoGeneration, DeviceFailed, NotWhole, Memory}
 
--- how many entries the journal of an area takes after a cut, if the next one gets the number `next`
+-- how many entries the journal of an area takes after a new cut, if the next entry gets the number `next`
 abbrev pub room_behind : Topology → ℕ → ℕ → ℕ
 room_behind t area next = entries_left 0 next (journal_of t area)
 
--- the device isn't written
+-- whether the device wasn't opened, so that it wasn't written
 abbrev pub StaysUnopened : {A : Type 0} → Result A CompactFault → Type 0
 StaysUnopened (Err (Opening unopened)) = Unit {0}
 StaysUnopened _ = ⊥
 
--- ## Which faults come where
+-- ## When each fault comes
 
--- whether the open area's generation was the last one
+-- What an answer tells about the open area's generation: whether it was the last one. `Memory` tells nothing.
 abbrev pub SaysLast : {A : Type 0} → Result A CompactFault → Bool → Type 0
 SaysLast (Err (Opening unopened)) last = ⊥
 SaysLast (Err NoGeneration) last = last ≡ true
 SaysLast (Err Memory) last = Unit {0}
 SaysLast _ last = last ≡ false
 
--- A fault is the opening's own; or the device opened, and had no generation left exactly if the fault says that. Memory may run out before that is
--- checked.
+-- When compacting may give this answer. `Opening` comes if the device isn't opened. Otherwise the device opened: `NoGeneration` comes if its
+-- generation was the last one, `Memory` comes whether it was or not, and all other answers come if it wasn't.
 abbrev pub CompactAnswer : {A : Type 0} → Result Opened OpenFault → Result A CompactFault → Type 0
 CompactAnswer given (Err (Opening unopened)) = IsUnopened given unopened
 CompactAnswer given (Err NoGeneration) = OpenedWith given (λ (opened : Opened). is_full_for_snapshot opened.generation ≡ true)
@@ -54,19 +42,19 @@ is_failure_in (Opening unopened) = failed_to_open unopened
 is_failure_in DeviceFailed = true
 is_failure_in _ = false
 
--- whether an answer does
+-- whether an answer says that a call of the device failed
 abbrev pub has_failed_in : {A : Type 0} → Result A CompactFault → Bool
 has_failed_in (Ok done) = false
 has_failed_in (Err fault) = is_failure_in fault
 
--- the fault of a flusher's turn
+-- the fault of compacting, for a fault of the flusher's turn
 abbrev pub flush_fault : FlushFault → CompactFault
 flush_fault flush.DeviceFailed = DeviceFailed
 flush_fault flush.StoreBroken = DeviceFailed
 flush_fault flush.Memory = Memory
 flush_fault flush.AreaFull = NotWhole
 
--- the fault of a snapshot that the book refuses to begin; none if one runs
+-- the fault of compacting, for a book that refuses to begin a snapshot; `None` if a snapshot runs already
 abbrev pub begin_fault : Refusal → Option CompactFault
 begin_fault refusal.SnapshotRunning = None
 begin_fault refusal.Memory = Some Memory
@@ -75,20 +63,21 @@ begin_fault refusal.StoreBroken = Some NotWhole
 begin_fault refusal.NothingToTake = Some NotWhole
 begin_fault refusal.PortFull = Some NotWhole
 
--- a fault of a snapshot that doesn't begin, though a generation is left
+-- a fault that beginning a snapshot may give if a generation is left
 abbrev pub IsBeginFault : CompactFault → Type 0
 IsBeginFault fault = (fault ≡ Memory) ⊎ (fault ≡ NotWhole)
 
--- The device opened, its generation is one more, and its journal takes no more entries than fit into its areas, and than numbers are left.
+-- The device opened, and its generation is one more than before. Its journal takes no more entries than fit into its areas, and no more than there
+-- are numbers left.
 pub record GrewByOne (given : Result Opened OpenFault) (done : Compaction) : Type 0 where
   pub opened : Opened
   pub is : given ≡ Ok opened
   pub generation : done.generation ≡ opened.generation + 1
   pub room : done.room ≤ room_behind opened.head.topology opened.head.areas.length done.next
 
--- A crash at any moment leaves what one just before might have left, or what opens to where a prefix of the journal leads. The prefix has all that
--- the device had when it was opened: that is the journal's beginning, and the next number is no less than it was. Once the call was done, the prefix
--- has each entry below the answered number, which is no less than the device's next number was at the opening.
+-- A crash at any moment leaves one of two things. Either a crash just before the call might have left it, too; or it opens to the network that a
+-- prefix of the journal leads to. That prefix begins with the journal that the device had at the opening, and has all of it. Once the call was done,
+-- the prefix has each entry below the answered number, which is no less than the device's next number was at the opening.
 pub record Compacted (start : Network NodeState) (result : Result Compaction CompactFault) (old new : State) : Type 0 where
   pub journal : List Entry
   pub leaves : LeavesOnly old new (λ left. MayBe old.now left ⊎ Follows start journal 0 old.now.bytes left)

@@ -1,16 +1,16 @@
--- Which faults come when.
+-- When each fault comes.
 use Rattle.std.specs.Prelude.{Result, Err}
 use Rattle.tp_run.specs.declared.fault.RunFault.{RunFault}
 use Rattle.tp_run.specs.declared.fault.RunFault.TheVariants.{Opening, Spare, Port, OfferRefused, FlushFailed, OutputFailed, ConfirmRefused, Unaccounted, Memory}
 
--- the device isn't written
+-- whether an answer says that the device wasn't written
 abbrev pub IsUnbegun : {A : Type 0} → Result A RunFault → Type 0
 IsUnbegun (Err (Opening unopened)) = Unit {0}
 IsUnbegun (Err Spare) = Unit {0}
 IsUnbegun (Err Port) = Unit {0}
 IsUnbegun _ = ⊥
 
--- nothing is printed
+-- whether an answer says that nothing was printed
 abbrev pub IsSilent : {A : Type 0} → Result A RunFault → Type 0
 IsSilent (Err (Opening unopened)) = Unit {0}
 IsSilent (Err Spare) = Unit {0}
@@ -19,14 +19,14 @@ IsSilent (Err OfferRefused) = Unit {0}
 IsSilent (Err FlushFailed) = Unit {0}
 IsSilent _ = ⊥
 
--- a fault of handing in the input
+-- a fault that handing in the input may give
 abbrev pub IsOfferFault : RunFault → Type 0
 IsOfferFault OfferRefused = Unit {0}
 IsOfferFault Unaccounted = Unit {0}
 IsOfferFault Memory = Unit {0}
 IsOfferFault _ = ⊥
 
--- a fault of printing and of what comes after it, but of no call of the device
+-- a fault that printing, or what comes after it, may give without a failed call of the device
 abbrev pub IsLate : RunFault → Type 0
 IsLate OutputFailed = Unit {0}
 IsLate ConfirmRefused = Unit {0}
@@ -34,7 +34,7 @@ IsLate Unaccounted = Unit {0}
 IsLate Memory = Unit {0}
 IsLate _ = ⊥
 
--- a fault that comes once the input was handed in
+-- a fault that may come after the input was handed in
 abbrev pub ComesBehind : RunFault → Type 0
 ComesBehind (Opening unopened) = ⊥
 ComesBehind Spare = ⊥
@@ -42,7 +42,7 @@ ComesBehind Port = ⊥
 ComesBehind OfferRefused = ⊥
 ComesBehind _ = Unit {0}
 
--- a fault of a run whose device opened, and which can be made as it is asked
+-- a fault that may come after the device opened and nothing was found wrong with the job
 abbrev pub ComesBegun : RunFault → Type 0
 ComesBegun (Opening unopened) = ⊥
 ComesBegun Spare = ⊥

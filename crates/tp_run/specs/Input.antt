@@ -1,22 +1,16 @@
 -- The input that a run hands in.
 use Rattle.std.specs.Prelude.{◌≡◌, ℕ, ◌+◌, ◌==◌, if◌then◌else◌, List, ◌++◌, length, map, take, drop, Option, Some, None}
-use Rattle.std.specs.List.{enumerate_from}
-use Rattle.tp_model.specs.declared.entry.Entry.{Entry}
-use Rattle.tp_model.specs.declared.entry.Entry.TheVariants.{HostIn}
-use Rattle.tp_book.specs.Book.{BookValue}
-use Rattle.tp_book.specs.Covered.{ReceiptValue}
-use Rattle.tp_book.specs.Host.{accepted_of, port_in, room_of}
-use Rattle.tp_book.specs.Refusals.{is_journal_full}
+use Rattle.tp_run.specs.Lower.{enumerate_from, Entry, HostIn, BookValue, ReceiptValue, accepted_of, port_in, room_of, is_journal_full}
 use Rattle.tp_run.specs.declared.fault.RunFault.{RunFault}
 use Rattle.tp_run.specs.declared.fault.RunFault.TheVariants.{OfferRefused, Unaccounted}
 use Rattle.tp_run.specs.declared.outset.Outset.{Outset}
 
--- of a port's whole input, the bytes that it hasn't accepted, as many as it has room for
+-- the bytes to hand in: those of the port's whole input that it hasn't accepted, as many as it has room for
 abbrev pub input_rest : BookValue → ℕ → List ℕ → List ℕ
 input_rest b port input = take (room_of (port_in b port)) (drop (accepted_of (port_in b port)) input)
 
--- Why `count` bytes that a port has room for aren't handed in. If there are any, the reasons are, in this order: the store is broken; the journal has
--- no room for them.
+-- Why `count` bytes that a port has room for aren't handed in. If `count` isn't 0, there are two reasons, tested in this order: the store is broken;
+-- the journal has no room for the entries.
 abbrev pub rest_fault : BookValue → ℕ → Option RunFault
 rest_fault b count =
     if count == 0 then None
@@ -24,15 +18,15 @@ rest_fault b count =
     else if is_journal_full b count then Some OfferRefused
     else None
 
--- for the outset of a port
+-- the bytes to hand in, by what was noted of the port
 abbrev pub rest_at : Outset → List ℕ → List ℕ
 rest_at outset input = take outset.room (drop outset.accepted input)
 
--- their entries, under the numbers from the next one on
+-- the slips of the entries for these bytes, numbered from the next number on
 abbrev pub input_slips : Outset → List ℕ → List (ℕ × Entry)
 input_slips outset input = enumerate_from outset.next (map (HostIn outset.port) (rest_at outset input))
 
--- A seat got just the input's slips, and the receipt's number is the next one after them.
+-- A seat got exactly the slips of the input, and the receipt's number is the next one after them.
 pub record IsForInput (outset : Outset) (input : List ℕ) (old new : List (ℕ × Entry)) (receipt : ReceiptValue) : Type 0 where
   pub slips : new ≡ old ++ input_slips outset input
   pub number : receipt.number ≡ outset.next + length (rest_at outset input)

@@ -1,3 +1,4 @@
+pub mod Lower
 pub mod Compacted
 pub mod Accounted
 pub mod Answered

@@ -1,15 +1,14 @@
--- Why a network isn't run as a job says.
+-- What can be wrong with a job on a network.
 use Rattle.std.specs.Prelude.{ℕ, nat_lt, nat_le, Bool, true, false, Option, Some, None}
-use Rattle.std.specs.List.{list_all}
-use Rattle.tp_model.specs.Topology.{Topology}
+use Rattle.tp_run.specs.Lower.{list_all, Topology}
 use Rattle.tp_run.specs.declared.fault.RunFault.{RunFault}
 use Rattle.tp_run.specs.declared.fault.RunFault.TheVariants.{Spare, Port}
 
--- whether each node has as many pages as are asked for as spare frames
+-- whether each node has at least as many pages as the spare frames that were asked for
 abbrev pub has_pages : ℕ → Topology → Bool
 has_pages spare t = list_all (λ pages. nat_le spare pages) t.pages
 
--- why a network isn't run so: a node has fewer, or there is no such port
+-- what is wrong with a job: a node has fewer pages than that, or there is no such port
 abbrev pub fault_by : Bool → Bool → Option RunFault
 fault_by false there = Some Spare
 fault_by true false = Some Port

@@ -1,8 +1,7 @@
-//! Who made what was journalled.
+//! Who made each entry that was journalled.
 
 ghost use Rattle.std.specs.Prelude.{◌≡◌, ◌++◌, flat_map, IfErr, IfOk};
-ghost use Rattle.tp_flush.specs.All.{AreAll};
-ghost use Rattle.tp_flush.specs.Known.{Began};
+ghost use Rattle.tp_run.specs.Lower.{AreAll, Began};
 ghost use Rattle.tp_run.specs.Faults.{IsLate};
 ghost use Rattle.tp_run.specs.Prints.{TellsAllPrinted};
 
@@ -12,7 +11,7 @@ use tp_flush::Flusher;
 use tp_shared::{Locked, Naming};
 use tp_work::Seat;
 
-/// The slips of the seat `host` and of all `seats`, in their order.
+/// Joins the slips of the seat `host` and of all `seats`, in their order.
 fn slips_of<J: Naming>(host: tp_shared::Seat<J>, seats: Vec<Seat<J>>) -> tp_shared::Seat<J>
     ensures { result ≡ host ++ flat_map (λ seat. seat.slips) seats.items }
 {
@@ -23,8 +22,8 @@ fn slips_of<J: Naming>(host: tp_shared::Seat<J>, seats: Vec<Seat<J>>) -> tp_shar
     all
 }
 
-/// Tests, under the book's lock, that the slips of the seat `host` and of `seats` are those of all that was journalled from the number `first` on,
-/// and that the next number is `next`. Answers `next`, and changes nothing.
+/// Tests, under the book's lock, that the seat `host` and `seats` have exactly the slips of all entries from the number `first` on. The next number
+/// must be `next`. Answers `next`, or fails with `Unaccounted`. Changes nothing.
 pub(crate) fn account<J: Naming, D: Disk>(
     held: &mut Locked<J>,
     flusher: &mut Flusher<J, D>,

@@ -1,20 +1,20 @@
-//! When a worker steps aside.
+//! When a worker rests because its turns are too short.
 
 ghost use Rattle.std.specs.Prelude.{◌≡◌, ◌<◌, ◌≤◌, ◌+◌, ◌*◌, ◌^◌, min, None, Some};
 
-/// Over how many of its turns a worker counts their steps.
+/// After how many turns a worker checks how many steps they had.
 const COUNTED: u64 = 64;
 
-/// With this many steps in these turns several threads begin to make more steps than one: 160 a turn, on average.
+/// How many steps these turns must have, so that several threads make more steps than one: 160 a turn, on average.
 const ENOUGH: u64 = 10_240;
 
-/// How many microseconds a worker rests for at first.
+/// How many microseconds a worker's first rest takes.
 const SHORTEST: u64 = 250;
 
-/// How many it rests for at most.
+/// How many microseconds a rest takes at most.
 const LONGEST: u64 = 8_000;
 
-/// How many turns a worker has made since it last looked, how many steps they had, and for how many microseconds it rests next.
+/// A worker's count of its turns and of their steps since its last check, and how many microseconds its next rest takes.
 #[derive(Drop)]
 pub(crate) struct Aside {
     turns: u64,
@@ -22,7 +22,7 @@ pub(crate) struct Aside {
     rest: u64,
 }
 
-/// How long a worker rests that has rested for `rest` microseconds.
+/// Doubles a rest of `rest` microseconds, up to [`LONGEST`].
 fn longer(rest: u64) -> u64
     ensures longer { rest < 2 ^ 63 → result ≡ min (rest * 2) LONGEST }
     ensures longest { result ≤ LONGEST }
@@ -31,7 +31,7 @@ fn longer(rest: u64) -> u64
 }
 
 impl Aside {
-    /// No turn was made yet.
+    /// Begins the count, with no turns and the shortest rest.
     pub(crate) fn new() -> Aside
         ensures { (result.turns ≡ 0) × (result.steps ≡ 0) × (result.rest ≡ SHORTEST) }
     {
@@ -42,8 +42,8 @@ impl Aside {
         }
     }
 
-    /// Counts a turn of `steps` steps. Answers for how many microseconds the worker had better rest, if it had: after each [`COUNTED`] turns
-    /// that had fewer than [`ENOUGH`] steps, each time for longer.
+    /// Counts a turn of `steps` steps. After each [`COUNTED`] turns it checks them: if they had fewer than [`ENOUGH`] steps, it answers for how many
+    /// microseconds the worker should rest, longer each time. Otherwise it answers `None`, and the next rest is the shortest again.
     pub(crate) fn count(&mut self, steps: u16) -> Option<u64>
         ensures early { self.old.turns + 1 < COUNTED → (result ≡ None) × (self.new.turns ≡ self.old.turns + 1) × (self.new.rest ≡ self.old.rest) }
         ensures steps { self.old.turns + 1 < COUNTED → self.old.steps + steps < 2 ^ 64 → self.new.steps ≡ self.old.steps + steps }

@@ -1,9 +1,7 @@
 //! When a run begins a snapshot.
 
 ghost use Rattle.std.specs.Prelude.{◌≡◌, true, false, Ok, IfOk, OnErr};
-ghost use Rattle.tp_book.specs.Marked.{after_begin, begin_refusal};
-ghost use Rattle.tp_book.specs.Refusals.{IsAnswer};
-ghost use Rattle.tp_flush.specs.Due.{is_due};
+ghost use Rattle.tp_run.specs.Lower.{after_begin, begin_refusal, IsAnswer, is_due};
 ghost use Rattle.tp_run.specs.Every.{every_of, missing_in};
 
 use std::alloc::Global;
@@ -12,7 +10,7 @@ use tp_book::Refusal;
 use tp_net::Topology;
 use tp_shared::{Locked, Naming};
 
-/// How many entries since the kept cut begin a snapshot, if `asked` were asked for; by default half of a journal.
+/// How many entries since the kept cut begin a snapshot: `asked`; if that is `None`, half of a journal, and at least one.
 pub(crate) fn every_of(asked: Option<u32>, topology: &Topology, area: u64) -> u64
     ensures { result ≡ every_of asked topology.now area }
 {
@@ -22,7 +20,7 @@ pub(crate) fn every_of(asked: Option<u32>, topology: &Topology, area: u64) -> u6
     }
 }
 
-/// How many entries since the kept cut are wanting until there are `every` of them.
+/// How many more entries are needed until there are `every` since the kept cut.
 pub(crate) fn missing_in<J: Naming>(held: &Locked<J>, every: u64) -> u64
     ensures { result ≡ missing_in every held.now.book }
 {
@@ -30,7 +28,8 @@ pub(crate) fn missing_in<J: Naming>(held: &Locked<J>, every: u64) -> u64
     every.saturating_sub(made)
 }
 
-/// Begins a snapshot, under the book's lock, if `every` entries have been made since the kept cut. Whether one was begun.
+/// Begins a snapshot, under the book's lock, if `every` entries or more have been made since the kept cut. Answers whether it did. Fails for the
+/// reason that the book gives, or with `Memory`, and then changes nothing.
 pub(crate) fn begin_where_due<J: Naming>(
     held: &mut Locked<J>,
     alloc: Global,

@@ -1,25 +1,10 @@
-//! A device is compacted: its network, as it is, becomes the cut, and its journal is empty.
+//! Compacting a device: its network as it is becomes the cut, and its journal becomes empty.
 
-ghost use Rattle.std.specs.List.{AllByRecursion};
 ghost use Rattle.std.specs.Prelude.{◌≡◌, ◌≤◌, ◌+◌, true, false, Ok, Err, Some, None, IfOk, IfSome, IsErr, MatchResult};
-ghost use Rattle.tp_area.specs.Places.{place_at};
-ghost use Rattle.tp_flush.specs.Flushing.{IsSameProcess, Walked};
-ghost use Rattle.tp_flush.specs.Known.{Began};
-ghost use Rattle.tp_law_machine.specs.NodeOfBytes.{IsNodeOfBytes};
-ghost use Rattle.tp_recover.specs.EntriesLeft.{entries_left};
-ghost use Rattle.tp_model.specs.DiskHistory.{IsSynced};
-ghost use Rattle.tp_model.specs.Journal.{is_full_for_snapshot, is_roomy, room};
-ghost use Rattle.tp_model.specs.Node.{t414_ends};
-ghost use Rattle.tp_model.specs.Opening.{verdict};
-ghost use Rattle.tp_model.specs.Spelling.{IsCut};
-ghost use Rattle.tp_model.specs.WriteOrder.{Resting};
-ghost use Rattle.tp_recover.specs.Reading.{LeavesNothingNew};
-ghost use Rattle.tp_recover.specs.declared.unopened.Unopened.{Unopened};
+ghost use Rattle.tp_run.specs.Lower.{AllByRecursion, place_at, IsSameProcess, Walked, Began, IsNodeOfBytes, entries_left, IsSynced, is_full_for_snapshot, is_roomy, room, t414_ends, verdict, IsCut, Resting, LeavesNothingNew, Unopened, IsMadeOf, Names};
 ghost use Rattle.tp_run.specs.Compacted.{CompactAnswer, Compacted, GrewByOne, IsBeginFault, SaysLast, StaysUnopened, begin_fault, flush_fault, has_failed_in, room_behind};
 ghost use Rattle.tp_run.specs.Failures.{failures_after};
-ghost use Rattle.tp_flush.specs.Made.{IsMadeOf};
 ghost use Rattle.tp_run.specs.Ran.{History};
-ghost use Rattle.tp_shared.specs.Named.{Names};
 
 use crate::opening::parts_of;
 use std::alloc::Global;
@@ -38,8 +23,8 @@ use tp_ready::Raiser;
 use tp_recover::{Opened, Unopened, entries_left, open};
 use tp_shared::{Naming, Parts, Shared};
 
-/// What a compacted device has: the number that its next entry gets, the generation of its cut, and how many entries its journal takes before it is
-/// full.
+/// What a compacted device has: the number of its next entry (`next`), the generation of its cut (`generation`), and how many entries its journal
+/// takes before it is full (`room`).
 #[derive(Clone, Copy)]
 pub struct Compaction {
     pub next: u64,
@@ -56,10 +41,10 @@ pub enum CompactFault {
     NoGeneration,
     /// A call of the device failed.
     DeviceFailed,
-    /// The cut didn't become whole, or no snapshot could begin for another reason than memory. As nothing runs, neither occurs; that is tested, and
-    /// not proved.
+    /// The cut didn't become whole, or a snapshot couldn't begin for a reason other than memory. Neither occurs, since nothing runs; that is tested,
+    /// but not proved.
     NotWhole,
-    /// Out of memory, at whatever step.
+    /// Out of memory, at any step.
     Memory,
 }
 
@@ -84,7 +69,7 @@ impl fmt::Debug for CompactFault {
 
 impl Error for CompactFault {}
 
-/// How many entries `journal` takes after those that were made since the kept cut, if the next one gets the number `next`.
+/// How many more entries fit in `journal`, after those that were made since the kept cut, if the next one gets the number `next`.
 fn left_in<J: Naming, R: Wait>(rt: &R, shared: &Shared<J>, journal: JournalRoom, next: u64) -> u64
     ensures { result ≤ entries_left 0 next journal }
 {
@@ -93,15 +78,15 @@ fn left_in<J: Naming, R: Wait>(rt: &R, shared: &Shared<J>, journal: JournalRoom,
     entries_left(journal, made, next)
 }
 
-/// Whether no generation is left after this one.
+/// Whether `generation` is the last one.
 fn is_last(generation: u64) -> bool
     ensures { result ≡ is_full_for_snapshot generation }
 {
     generation == NUMBER_LIMIT - 1
 }
 
-/// The fault of a snapshot that doesn't begin, though a generation is left; `None` if one runs. While nothing was done to the device, and nothing
-/// runs, it can only be out of memory.
+/// Gives the fault for a snapshot that the book refuses to begin; `None` if a snapshot runs already. If a generation is left, nothing runs, and the
+/// device wasn't written, then the fault can only be `Memory`.
 fn fault_of(refusal: Refusal) -> Option<CompactFault>
     ensures is { result ≡ begin_fault refusal }
     ensures begins { IfSome result IsBeginFault }
@@ -114,7 +99,7 @@ fn fault_of(refusal: Refusal) -> Option<CompactFault>
     }
 }
 
-/// What comes of beginning a snapshot, by its answer: `None` if one begins.
+/// Gives the fault for the answer to beginning a snapshot; `None` if one runs now.
 fn outcome_of(answer: Result<(), Refusal>) -> Option<CompactFault>
     ensures is { MatchResult answer (λ begun. result ≡ None) (λ refusal. result ≡ begin_fault refusal) }
     ensures begins { IfSome result IsBeginFault }
@@ -125,7 +110,7 @@ fn outcome_of(answer: Result<(), Refusal>) -> Option<CompactFault>
     }
 }
 
-/// Begins a snapshot.
+/// Begins a snapshot. Answers the fault if that was refused; `None` if a snapshot runs now.
 fn begin<J: Naming, D: Disk, R: Wait>(
     rt: &R,
     alloc: Global,
@@ -137,7 +122,7 @@ fn begin<J: Naming, D: Disk, R: Wait>(
     outcome_of(flusher.snapshot(rt, alloc, shared).answer())
 }
 
-/// Has each node record, and takes each Marker off its line. No other token is taken, and nothing runs.
+/// Makes each node record, and takes each Marker off its line. It takes no other token, and no node runs.
 fn record_all<J: Naming, R: Wait>(rt: &R, shared: &Shared<J>) {
     for node in 0..shared.nodes() {
         shared.record(rt, node);
@@ -146,7 +131,7 @@ fn record_all<J: Naming, R: Wait>(rt: &R, shared: &Shared<J>) {
     held.close_all();
 }
 
-/// The fault of a flusher's turn.
+/// Gives the fault of compacting for a fault of the flusher's turn.
 fn fault_in(fault: FlushFault) -> CompactFault
     ensures { result ≡ flush_fault fault }
 {
@@ -157,7 +142,8 @@ fn fault_in(fault: FlushFault) -> CompactFault
     }
 }
 
-/// Makes all of the network one cut, and switches the areas to it, each with such a `journal`.
+/// Makes the network as it is one cut, and switches the store to the area that has it. `journal` says how many entries an area takes. Fails with
+/// `NoGeneration` if the generation is the last one; otherwise as the snapshot and the flusher's turn fail.
 fn switch_all<J: Naming, D: Disk, R: Wait>(
     rt: &R,
     alloc: Global,
@@ -196,7 +182,8 @@ fn switch_all<J: Naming, D: Disk, R: Wait>(
     })
 }
 
-/// Makes one cut of the network of an opened device, by the parts that were made of it, and switches the areas of its store.
+/// Makes one cut of the network of an opened device, from its parts, and switches the store to the area that has it. Answers the device and what it
+/// has then.
 #[inline(never)]
 fn compact_parts<J: Naming, D: Disk, R: Wait>(
     rt: &R,
@@ -233,14 +220,17 @@ fn compact_parts<J: Naming, D: Disk, R: Wait>(
     (flusher.into_disk(), done)
 }
 
-/// Opens a device, makes its network as it is the cut of the other area, and switches to that. Nothing runs, nothing is taken, and all output stays.
-/// The journal is empty afterwards, even if it was full. Answers the device, and what it has then.
+/// Opens a device, writes its network as it is into the other area as a new cut, and switches to that area. No node runs, no token is taken, and all
+/// output stays. Afterwards the journal is empty, even if it was full. Answers the device, and what it has then.
 ///
-/// Whatever a crash leaves at any moment of the call is what one just before might have left, or opens to where a prefix of the journal leads, with
-/// all that the device had. The store's contract says so (`Flusher::turn`, `Store::open_other`): until the new cut is whole and synced, it writes
-/// only into the area that isn't open. After a call that was done, the prefix has each entry below the answered number, which is no less than the
-/// device's next number was, and the generation is one more than before. A fault tells its reason: what opening answers; that the device's generation
-/// is the last one; or that a call of the device failed, exactly if one has.
+/// A crash at any moment of the call leaves one of two things. Either a crash just before the call might have left it, too; or it opens to the
+/// network that a prefix of the journal leads to. That prefix has all that the device had. The store's contract says so (`Flusher::turn`,
+/// `Store::open_other`): until the new cut is whole and synced, the store writes only into the area that isn't open. After a call that was done, the
+/// prefix has each entry below the answered number. That number is no less than the device's next number was, and the generation is one more than
+/// before.
+///
+/// Fails with `Opening` for the reason that opening gives. Fails with `NoGeneration` if the device's generation is the last one. Fails with
+/// `DeviceFailed` if a call of the device failed after the opening. It says that a call failed exactly if one did.
 #[inline(never)]
 pub fn compact<D: Disk, R: Wait>(
     rt: &R,

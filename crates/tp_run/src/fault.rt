@@ -4,7 +4,7 @@ use std::error::Error;
 use std::fmt;
 use tp_recover::Unopened;
 
-/// In the order in which the causes are tested. Each but the first four may come once the device was written.
+/// In the order in which the causes are tested. The first four come before this run has written the device, all others may come after that.
 #[derive(Clone, Copy, PartialEq, Eq)]
 pub enum RunFault {
     /// The device isn't opened.
@@ -13,20 +13,20 @@ pub enum RunFault {
     Spare,
     /// The port doesn't exist.
     Port,
-    /// There is no room on the device for the entries of the input, which has some bytes. None was handed in.
+    /// The device has no room for the entries of the input, which isn't empty. No byte of it was handed in.
     OfferRefused,
-    /// A call of the device failed while the workers made their turns, or after them. Nothing is printed.
+    /// A call of the device failed while the workers made their turns, or in the flush after them. Nothing is printed.
     FlushFailed,
-    /// The output can't be written: some of what is shown was, but not all; nothing is confirmed.
+    /// The output can't be written. Some of the output was printed, but not all of it; nothing is confirmed.
     OutputFailed,
-    /// All that is shown is printed, and there is no room on the device for the entry that confirms it.
+    /// All output is printed, but the device has no room for the entry that confirms it.
     ConfirmRefused,
-    /// All that is shown is printed, and a call of the device failed before its confirmation is stored.
+    /// All output is printed, but a call of the device failed before the confirmation was stored.
     LastFlushFailed,
-    /// What is under the book's lock isn't what this run put there: an entry's slip is in no seat, or one is missing. It can't occur, since no other
-    /// thread is there.
+    /// Something is under the book's lock that this run didn't put there. Either the port isn't as this run noted it, or the seats don't have exactly
+    /// the slips of all entries. It can't occur, since no other thread is there.
     Unaccounted,
-    /// Out of memory, at whatever step.
+    /// Out of memory, at any step.
     Memory,
 }
 

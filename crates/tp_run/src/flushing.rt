@@ -1,9 +1,7 @@
 //! The flusher's thread, and flushes after it.
 
 ghost use Rattle.std.specs.Prelude.{◌≡◌, ◌≤◌, Err, IsOk, IfOk, IfErr, OnOk, MatchResult};
-ghost use Rattle.tp_model.specs.WriteOrder.{Resting};
-ghost use Rattle.tp_flush.specs.Known.{Began};
-ghost use Rattle.tp_flush.specs.Flushing.{IsSameProcess, Walked};
+ghost use Rattle.tp_run.specs.Lower.{Resting, Began, IsSameProcess, Walked};
 ghost use Rattle.tp_run.specs.Failures.{CountsFailures, IsFlushFault, flush_fault_of};
 
 use crate::fault::RunFault;
@@ -15,17 +13,17 @@ use tp_flush::{FlushFault, Flushed, Flusher};
 use tp_model::limits::MAX_PAGES;
 use tp_shared::{Naming, Shared};
 
-/// Tells that the entries since the kept cut changed, if a turn of the flusher switched the areas.
+/// Makes the workers count the entries since the kept cut anew, if the flusher's turn `done` switched the areas.
 fn tell_of<J: Naming>(watch: &Watch, done: &Result<Flushed<J>, FlushFault>) {
     if let Ok(Flushed { switched: true, .. }) = done {
         watch.count_anew();
     }
 }
 
-/// Makes the flusher's turns while workers make theirs, until they have ended: each once something may have been journalled. If nothing was, it
-/// sleeps for a bounded time; no turn wakes it. If a turn runs out of memory, the next one does all. Once a call of the device has failed, a turn
-/// does nothing. A turn copies about one frozen image of the largest nodes, so that what is journalled needn't wait for all of them; once the workers
-/// have ended, a turn copies all that it may.
+/// Makes the flusher's turns while workers make theirs, until the workers have ended. Before each turn it waits until something may have been
+/// journalled: it sleeps for a bounded time and checks, and no worker's turn wakes it. If a turn runs out of memory, the next turn does its work,
+/// too. Once a call of the device has failed, turns do nothing. A turn copies about one frozen image of the largest nodes, so that new entries
+/// needn't wait until all images are copied. Once the workers have ended, a turn copies all that it may.
 pub(crate) fn flush_meanwhile<J: Naming, D: Disk, R: Wait>(
     rt: &R,
     alloc: Global,
@@ -53,8 +51,8 @@ pub(crate) fn flush_meanwhile<J: Naming, D: Disk, R: Wait>(
     flusher
 }
 
-/// The fault of a run whose flush was refused: `given` if the device has failed. An area has room for all that the book has, so the last case doesn't
-/// occur.
+/// Gives the fault of a run whose flush was refused: `given` if the device has failed. `AreaFull` doesn't occur, since an area has room for all that
+/// the book has.
 fn fault_in(fault: FlushFault, given: RunFault) -> RunFault
     ensures { result ≡ flush_fault_of given fault }
 {
@@ -65,7 +63,8 @@ fn fault_in(fault: FlushFault, given: RunFault) -> RunFault
     }
 }
 
-/// What comes of a flush whose turn was `turned`: it is done exactly if the turn was; else its fault, which is `given` if the device has failed.
+/// Gives what a flush answers, if its turn answered `turned`: `Ok` if the turn was done; else the turn's fault, which is `given` if the device has
+/// failed.
 fn outcome_of<J: Naming>(
     turned: Result<Flushed<J>, FlushFault>,
     given: RunFault,
@@ -78,7 +77,7 @@ fn outcome_of<J: Naming>(
     }
 }
 
-/// A flush. It answers `fault` if the device fails.
+/// Flushes once. Fails with `fault` if the device failed, and else with `Memory` or `Unaccounted`.
 fn flush<J: Naming, D: Disk, R: Wait>(
     rt: &R,
     alloc: Global,
@@ -95,8 +94,8 @@ fn flush<J: Naming, D: Disk, R: Wait>(
     outcome_of(flusher.turn(rt, alloc, shared), fault)
 }
 
-/// A flush of all entries below `number`, which is the next one of a receipt. Answers the mark. It answers `fault` if the device
-/// fails.
+/// Flushes, and checks that all entries below `number` are stored; `number` is the next one after a receipt. Answers the mark. Fails with `fault` if
+/// the device failed, and else with `Memory` or `Unaccounted`.
 pub(crate) fn flush_upto<J: Naming, D: Disk, R: Wait>(
     rt: &R,
     alloc: Global,
@@ -114,7 +113,7 @@ pub(crate) fn flush_upto<J: Naming, D: Disk, R: Wait>(
 {
     flush(rt, alloc, shared, flusher, fault)?;
     let mark = flusher.mark();
-    // A flush that was done copied all that was journalled before, so this doesn't occur.
+    // A flush that was done copied all that was journalled before it, so this doesn't occur.
     if mark < number {
         return Err(RunFault::Unaccounted);
     }

@@ -1,4 +1,4 @@
-//! The program's main job: a network that runs in threads over any device.
+//! Runs a device's network in threads, which is the program's main job.
 #![tactic(auto)]
 
 mod accounting;

@@ -1,12 +1,8 @@
 //! The input that a run hands in.
 
 ghost use Rattle.std.specs.Prelude.{◌≡◌, ◌<◌, length, map, take, drop, IfOk, IfErr, OnErr};
-ghost use Rattle.tp_book.specs.Book.{next_in_book};
-ghost use Rattle.tp_book.specs.Host.{after_inputs};
-ghost use Rattle.tp_work.specs.Receipts.{IsFor};
-ghost use Rattle.tp_model.specs.declared.entry.Entry.TheVariants.{HostIn};
+ghost use Rattle.tp_run.specs.Lower.{next_in_book, after_inputs, IsFor, HostIn, RefusesFor};
 ghost use Rattle.tp_run.specs.Input.{IsForInput, rest_at, rest_fault, input_rest};
-ghost use Rattle.tp_work.specs.Answers.{RefusesFor};
 ghost use Rattle.tp_run.specs.Faults.{IsOfferFault};
 
 use crate::fault::RunFault;
@@ -15,7 +11,7 @@ use tp_book::Receipt;
 use tp_shared::{Locked, Naming, Seat};
 use tp_work::{OfferFault, offer};
 
-// At most `room` bytes from the position `from` on.
+// Gives at most `room` bytes of `input`, from the position `from` on.
 fn front_from(input: &[u8], from: u64, room: usize) -> &[u8]
     ensures { result.now ≡ take room (drop from input.now) }
 {
@@ -27,8 +23,9 @@ fn front_from(input: &[u8], from: u64, room: usize) -> &[u8]
     &rest[..rest.len().min(room)]
 }
 
-/// Hands a port the bytes of its whole input that it hasn't accepted, as many as it has room for. If it has accepted more, it
-/// gets none. The receipt is for all that it has accepted, and `seat` gets the slips of the entries.
+/// Hands a port the bytes of its whole input that it hasn't accepted, as many as it has room for. If it has accepted more than `input` has, it gets
+/// none. The receipt is for all that it has accepted then, and `seat` gets the slips of the entries. Fails with `OfferRefused` if the journal has no
+/// room for them, with `Unaccounted` if the store is broken, or with `Memory`; then nothing changes.
 pub(crate) fn offer_rest<J: Naming>(
     held: &mut Locked<J>,
     seat: &mut Seat<J>,
@@ -59,8 +56,8 @@ pub(crate) fn offer_rest<J: Naming>(
     }
 }
 
-/// Hands in the rest of the input if the port in the book is as `outset` says, and none if it isn't. It is, as long as no other thread has been there
-/// since the device was opened. `seat` gets the slips.
+/// Hands in the rest of the input if the port in the book is as `outset` says; `seat` gets the slips. Otherwise it fails with `Unaccounted`, which
+/// doesn't occur while no other thread has changed the book since the opening. Else it fails as `offer_rest` does.
 pub(crate) fn offer_at<J: Naming>(
     held: &mut Locked<J>,
     seat: &mut Seat<J>,

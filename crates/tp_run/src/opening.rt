@@ -1,11 +1,7 @@
-//! What is made of a device that opened.
+//! What a run makes of a device that opened.
 
 ghost use Rattle.std.specs.Prelude.{◌≡◌, ◌<◌, IfOk, Some};
-ghost use Rattle.tp_model.specs.Journal.{room};
-ghost use Rattle.tp_book.specs.Book.{next_in_book};
-ghost use Rattle.tp_book.specs.Opened.{IsWellOpen, opened_book};
-ghost use Rattle.tp_flush.specs.Made.{IsMadeOf};
-ghost use Rattle.tp_ready.specs.Seen.{unrisen};
+ghost use Rattle.tp_run.specs.Lower.{room, next_in_book, IsWellOpen, opened_book, IsMadeOf, unrisen};
 ghost use Rattle.tp_run.specs.Made.{fault_by, has_pages, job_fault};
 ghost use Rattle.tp_run.specs.Outset.{outset_in};
 
@@ -20,7 +16,7 @@ use tp_recover::Opened;
 use tp_shared::Parts;
 use tp_work::nodes_of;
 
-/// Whether each node has as many pages as `spare` says.
+/// Whether each node has at least `spare` pages.
 fn has_pages(spare: u16, topology: &Topology) -> bool
     ensures { result ≡ has_pages spare topology.now }
 {
@@ -33,7 +29,7 @@ fn has_pages(spare: u16, topology: &Topology) -> bool
     true
 }
 
-/// What is wrong, if a node has too few pages, or the port doesn't exist.
+/// Gives what is wrong with a job: `Spare` if a node has too few pages, `Port` if the port doesn't exist; `None` if both are right.
 fn fault_by(has_pages: bool, has_port: bool) -> Option<RunFault>
     ensures { result ≡ fault_by has_pages has_port }
 {
@@ -44,7 +40,7 @@ fn fault_by(has_pages: bool, has_port: bool) -> Option<RunFault>
     }
 }
 
-/// Why a network isn't run as `job` says; `None` if it is.
+/// Gives what is wrong with `job` on a network of this topology; `None` if nothing is.
 pub(crate) fn job_fault(job: Job, topology: &Topology) -> Option<RunFault>
     ensures { result ≡ job_fault job.spare job.port topology.now }
 {
@@ -52,7 +48,8 @@ pub(crate) fn job_fault(job: Job, topology: &Topology) -> Option<RunFault>
     fault_by(has_pages(job.spare, topology), has_port)
 }
 
-/// The parts of an opened book and its nodes, each with `spare` frames, and the raiser of their mark.
+/// Makes the parts of a network from an opened book and its nodes, and the raiser of their mark. Each node gets `spare` frames. Fails if memory runs
+/// out.
 #[inline(never)]
 fn parts_with(
     alloc: Global,
@@ -72,8 +69,8 @@ fn parts_with(
     Ok((parts, raiser))
 }
 
-/// The book and the nodes of what was opened, the raiser of their mark, and what the book has of the port `port`. Each node has `spare` frames for
-/// pages that it writes while it is frozen.
+/// Makes the book and the nodes of an opened device, and the raiser of their mark, and notes how the port `port` is. Each node gets `spare` frames
+/// for pages that it writes while it is frozen. Fails if memory runs out.
 #[inline(never)]
 pub(crate) fn parts_of(
     alloc: Global,

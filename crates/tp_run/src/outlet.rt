@@ -1,9 +1,7 @@
-//! Where a run prints.
+//! The outlet that a run prints to.
 
 ghost use Rattle.std.specs.Prelude.{◌≡◌, ◌<◌, ◌↔◌, [], ◌∷◌, length, IfOk};
-ghost use Rattle.std.specs.Io.{WritesAtMost};
-ghost use Rattle.std.specs.Io.KnownBytes.{WriteAppends};
-ghost use Rattle.std.specs.IoError.{error_kind};
+ghost use Rattle.tp_run.specs.Lower.{WritesAtMost, WriteAppends, error_kind};
 ghost use Rattle.tp_run.specs.Outlet.{CallsMore, OutletValue, unnoted};
 
 use std::io;
@@ -12,7 +10,7 @@ use tp_disk::Disk;
 use tp_flush::Flusher;
 use tp_shared::Naming;
 
-/// Why an outlet took no byte.
+/// Why an outlet took no bytes.
 #[derive(Clone, Copy)]
 pub enum OutletFault {
     /// It was interrupted, and may be called again.
@@ -21,12 +19,12 @@ pub enum OutletFault {
     Failed,
 }
 
-/// What a run prints to. Each call is lent the flusher, so that the device's state is known then.
+/// What a run prints to. Each call is lent the flusher, so that contracts can speak of the device's state at that call.
 pub trait Outlet {
-    /// The bytes that it has taken, and the calls that were made of it; `None` for what isn't known.
+    /// The bytes that the outlet has taken, and the calls that it got. `None` says that nothing is known.
     ghost value: { Self → OutletValue };
 
-    /// Takes some of these bytes, from the first one on, and answers how many; or it takes none, and says why.
+    /// Takes some of these bytes, from the first one on, and answers how many; or takes none, and says why.
     fn print<J: Naming, D: Disk>(
         &mut self,
         flusher: &Flusher<J, D>,
@@ -38,7 +36,7 @@ pub trait Outlet {
         ensures noted { CallsMore (value self.old).calls (value self.new).calls (record { bytes = bytes.now; answer = result; there = flusher.now.state } ∷ []) };
 }
 
-/// Why a writer took no byte, by its error: one that was interrupted may be called again.
+/// Gives why a writer took no bytes, by its error. A writer that was interrupted may be called again.
 fn fault_of(error: &io::Error) -> OutletFault
     ensures { (result ≡ OutletFault.Interrupted) ↔ (error_kind error.now ≡ ErrorKind.Interrupted) }
 {
@@ -49,7 +47,7 @@ fn fault_of(error: &io::Error) -> OutletFault
     }
 }
 
-/// Each writer is an outlet, which notes no call.
+/// Each writer is an outlet. It notes no calls.
 impl<O: Write> Outlet for O {
     ghost value = { λ out. unnoted (O.contents out) };
 

@@ -1,4 +1,4 @@
-//! What a run notes of its port as it opens a device.
+//! What a run notes of its port when it opens a device.
 
 ghost use Rattle.std.specs.Prelude.{◌≡◌, ◌<◌, length, IfOk, IfErr};
 ghost use Rattle.tp_book.specs.Host.{port_in};
@@ -7,7 +7,7 @@ ghost use Rattle.tp_run.specs.Outset.{StandsIn, outset_of};
 use crate::fault::RunFault;
 use tp_book::Book;
 
-/// What a book has of a port, and the number that the next entry gets.
+/// How a port is in a book, and the number that the next entry gets.
 #[derive(Clone, Copy)]
 pub(crate) struct Outset {
     /// The port.
@@ -16,14 +16,14 @@ pub(crate) struct Outset {
     pub(crate) next: u64,
     /// How many bytes the port has accepted.
     pub(crate) accepted: u64,
-    /// How many bytes more it has room for.
+    /// How many more bytes it has room for.
     pub(crate) room: usize,
     /// How many of its outputs are confirmed.
     pub(crate) confirmed: u64,
 }
 
 impl Outset {
-    /// What a book has of the port `port`.
+    /// Notes how the port `port` is in a book.
     pub(crate) fn of(book: &Book, port: u8) -> Outset
         requires { port < length book.now.state.ports }
         ensures { result ≡ outset_of book.now port }
@@ -37,7 +37,7 @@ impl Outset {
         }
     }
 
-    /// Tests that a book has the port as noted, before its input is handed in.
+    /// Tests that the port in a book is as noted, before its input is handed in. Fails with `Unaccounted` if it isn't.
     pub(crate) fn stands_in(self, book: &Book) -> Result<(), RunFault>
         requires { self.port < length book.now.state.ports }
         ensures stands { IfOk result (λ done. StandsIn self book.now) }
@@ -52,7 +52,7 @@ impl Outset {
         Err(RunFault::Unaccounted)
     }
 
-    /// Tests that a book has confirmed exactly the outputs of the port that it had confirmed at the opening.
+    /// Tests that the port in a book has confirmed exactly the outputs that it had confirmed at the opening. Fails with `Unaccounted` if it hasn't.
     pub(crate) fn is_confirmed_in(self, book: &Book) -> Result<(), RunFault>
         requires { self.port < length book.now.state.ports }
         ensures confirmed { IfOk result (λ done. (port_in book.now self.port).out_base ≡ self.confirmed) }

@@ -1,14 +1,9 @@
 //! The output that a run prints and confirms.
 
 ghost use Rattle.std.specs.Prelude.{◌≡◌, ◌<◌, ◌≤◌, length, take, IsOk, IfOk, IfErr, OnOk, OnErr};
-ghost use Rattle.std.specs.Io.KnownBytes.{Appends};
-ghost use Rattle.tp_book.specs.Book.{next_in_book};
-ghost use Rattle.tp_book.specs.Host.{after_confirm, port_in, shown_from, shown_of, shown_upto_of};
-ghost use Rattle.tp_book.specs.Acts.{confirm_entries};
-ghost use Rattle.tp_work.specs.Receipts.{IsFor};
+ghost use Rattle.tp_run.specs.Lower.{Appends, next_in_book, after_confirm, port_in, shown_from, shown_of, shown_upto_of, confirm_entries, IsFor, RefusesFor};
 ghost use Rattle.tp_run.specs.Faults.{IsLate};
 ghost use Rattle.tp_run.specs.Output.{AreOutputs, AreShownBytes, IsForOutput, PrintedOf, ShowsAll, unconfirmed_fault};
-ghost use Rattle.tp_work.specs.Answers.{RefusesFor};
 ghost use Rattle.tp_run.specs.Outlet.{WasCalled};
 ghost use Rattle.tp_run.specs.Prints.{PrintsAt, TellsAllPrinted};
 
@@ -21,7 +16,7 @@ use tp_flush::Flusher;
 use tp_shared::{Locked, Naming, Seat};
 use tp_work::{ConfirmFault, confirm};
 
-/// Calls an outlet for bytes, until it has taken all of them or failed. Answers how many of them it took.
+/// Calls an outlet with bytes until it has taken all of them or failed. Answers how many of them it took. An interrupted call is made again.
 fn write_front<J: Naming, D: Disk, O: Outlet>(
     flusher: &Flusher<J, D>,
     out: &mut O,
@@ -45,7 +40,7 @@ fn write_front<J: Naming, D: Disk, O: Outlet>(
     written
 }
 
-/// Prints bytes as they are. Whatever it answers, the outlet has taken some of the first ones; after a fault, not all.
+/// Prints `bytes`. Fails with `OutputFailed` if the outlet failed; then it has taken only some of the first bytes, or none.
 fn put<J: Naming, D: Disk, O: Outlet>(
     flusher: &Flusher<J, D>,
     out: &mut O,
@@ -62,7 +57,8 @@ fn put<J: Naming, D: Disk, O: Outlet>(
     Ok(())
 }
 
-/// Journals, under the book's lock, that the host has all outputs of a port that `mark` shows. `seat` gets the entry's slip.
+/// Journals, under the book's lock, that the host has all outputs of a port that `mark` shows. `seat` gets the entry's slip. Fails with
+/// `ConfirmRefused` if the journal is full, with `Unaccounted` if the store is broken, or with `Memory`; then nothing changes.
 fn confirm_shown<J: Naming>(
     held: &mut Locked<J>,
     seat: &mut Seat<J>,
@@ -88,8 +84,9 @@ fn confirm_shown<J: Naming>(
     }
 }
 
-/// Prints, under the book's lock, the outputs of a port that `mark` shows and that aren't confirmed, and confirms them. The receipt
-/// has the number of the next entry, and `seat` gets the slip. If the output can't be written, nothing is confirmed.
+/// Prints, under the book's lock, the outputs of a port that `mark` shows and that aren't confirmed, and confirms them. The receipt has the number of
+/// the next entry, and `seat` gets the slip. If the output can't be written, it fails with `OutputFailed` and confirms nothing. Else it fails as
+/// `confirm_shown` does.
 fn print_shown<J: Naming, D: Disk, O: Outlet>(
     held: &mut Locked<J>,
     seat: &mut Seat<J>,
@@ -111,7 +108,7 @@ fn print_shown<J: Naming, D: Disk, O: Outlet>(
     confirm_shown(held, seat, port, mark)
 }
 
-/// Tests that `mark` shows all outputs of a port, and is above all entries of the book; fails exactly if one of the two is false.
+/// Tests that `mark` shows all outputs of a port and is above all entries of the book. Fails with `Unaccounted` exactly if one of the two is false.
 fn is_all_shown(book: &Book, port: u8, mark: u64) -> Result<(), RunFault>
     requires { port < length book.now.state.ports }
     ensures all { IfOk result (λ done. shown_of book.now port mark ≡ length (port_in book.now port).outputs) }
@@ -126,8 +123,9 @@ fn is_all_shown(book: &Book, port: u8, mark: u64) -> Result<(), RunFault>
     Err(RunFault::Unaccounted)
 }
 
-/// Prints and confirms if the book has confirmed what it had at the opening, and `mark` shows all outputs and is above all entries; else it prints
-/// nothing. After a flush, with no other thread there, both hold. `seat` gets the slip.
+/// Prints and confirms all outputs, as `print_shown` does. Before that it tests that the port has confirmed what it had at the opening, and that
+/// `mark` shows all outputs and is above all entries. If a test fails, it prints nothing and fails with `Unaccounted`; that doesn't occur after a
+/// flush with no other thread there.
 pub(crate) fn print_from<J: Naming, D: Disk, O: Outlet>(
     held: &mut Locked<J>,
     seat: &mut Seat<J>,

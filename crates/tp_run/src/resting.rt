@@ -1,4 +1,4 @@
-//! What a run leaves to do.
+//! What a run leaves to do in the network.
 
 ghost use Rattle.std.specs.Prelude.{◌≡◌, ◌≤◌, IfOk};
 ghost use Rattle.tp_flush.specs.Known.{Began};
@@ -11,8 +11,8 @@ use tp_flush::Flusher;
 use tp_node::Rest;
 use tp_shared::{Naming, Shared};
 
-/// What a run that was `done` leaves to do in the network as it is now. It takes the book's lock and each node's; no other thread has one by then. If
-/// the run wasn't done, or something was journalled after it, something is left.
+/// Says what is left to do in the network after a run that answered `done`. Takes the book's lock and each node's; no other thread holds one by then.
+/// If the run failed, or something was journalled after it, the answer is `Busy`.
 #[inline(never)]
 pub(crate) fn rest_after<J: Naming, D: Disk, R: Wait>(
     rt: &R,

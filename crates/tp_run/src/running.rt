@@ -1,31 +1,15 @@
 //! A run, from a device to a device.
 
-ghost use Rattle.std.specs.List.{AllByRecursion};
 ghost use Rattle.std.specs.Prelude.{◌≡◌, ◌<◌, ◌≤◌, [], true, false, All, Ok, Err, Some, length, vec_len, IfErr, IfOk, IsErr};
-ghost use Rattle.tp_area.specs.Places.{place_at};
-ghost use Rattle.tp_flush.specs.Known.{Began};
-ghost use Rattle.tp_flush.specs.Flushing.{IsSameProcess, Walked};
-ghost use Rattle.tp_model.specs.DiskHistory.{IsSynced};
-ghost use Rattle.tp_law_machine.specs.NodeOfBytes.{IsNodeOfBytes};
-ghost use Rattle.tp_model.specs.Journal.{is_roomy, room};
-ghost use Rattle.tp_model.specs.Node.{t414_ends};
-ghost use Rattle.tp_model.specs.Opening.{verdict};
-ghost use Rattle.tp_model.specs.Spelling.{IsCut};
-ghost use Rattle.tp_model.specs.WriteOrder.{Resting};
-ghost use Rattle.tp_model.specs.declared.limits.TheConstants.{MAX_STEPS};
-ghost use Rattle.tp_recover.specs.Reading.{LeavesNothingNew};
+ghost use Rattle.tp_run.specs.Lower.{AllByRecursion, place_at, Began, IsSameProcess, Walked, IsSynced, IsNodeOfBytes, is_roomy, room, t414_ends, verdict, IsCut, Resting, MAX_STEPS, LeavesNothingNew, IsMadeOf, Unopened, MAX_WORKERS, Names};
 ghost use Rattle.tp_run.specs.Answered.{AnswerFor};
 ghost use Rattle.tp_run.specs.Failures.{failures_after, has_failed};
 ghost use Rattle.tp_run.specs.Faults.{ComesBegun, IsSilent, IsUnbegun};
 ghost use Rattle.tp_run.specs.Input.{input_slips, rest_at};
-ghost use Rattle.tp_flush.specs.Made.{IsMadeOf};
 ghost use Rattle.tp_run.specs.Outset.{outset_in};
 ghost use Rattle.tp_run.specs.Ran.{History, Ran, RanInto, Settled};
 ghost use Rattle.tp_run.specs.Rested.{RestsAt, SaysRest};
 ghost use Rattle.tp_run.specs.Shown.{MayPrint};
-ghost use Rattle.tp_recover.specs.declared.unopened.Unopened.{Unopened};
-ghost use Rattle.tp_work.specs.declared.start.TheConstants.{MAX_WORKERS};
-ghost use Rattle.tp_shared.specs.Named.{Names};
 
 use crate::beginning::every_of;
 use crate::fault::RunFault;
@@ -50,11 +34,12 @@ use tp_recover::{Opened, open};
 use tp_shared::{Naming, NoGate, Parts};
 use tp_work::{Net, Seat};
 
-/// Lets a network go. What that moves takes room on the stack, so it is never inlined.
+/// Drops a network. It is never inlined, since moving the network takes room on the stack.
 #[inline(never)]
 fn let_go<J: Naming>(_net: Net<J, NoGate>) {}
 
-/// Serves a network, as `serve` does, says what is left to do in it, and lets it go, so that it takes no room on the stack beside what it was made of.
+/// Serves a network as `serve` does, says what is left to do in it, and drops it. It is a function of its own so that the network isn't on the stack
+/// together with the parts that it was made of.
 #[inline(never)]
 fn use_up<J: Naming + Send + Sync, D: Disk + Send + Drop, O: Outlet, R: Threads + Wait + Sync>(
     rt: &R,
@@ -98,7 +83,8 @@ fn use_up<J: Naming + Send + Sync, D: Disk + Send + Drop, O: Outlet, R: Threads 
     (flusher, done, rest)
 }
 
-/// A run over the store of a device that was opened, with the parts that were made of it.
+/// Runs the network of an opened device, from the parts that were made of it. Fails with `Memory` if the threads' seats find no room; else as `serve`
+/// fails.
 #[inline(never)]
 fn run_parts<J: Naming + Send + Sync, D: Disk + Send + Drop, O: Outlet, R: Threads + Wait + Sync>(
     rt: &R,
@@ -160,18 +146,26 @@ fn run_parts<J: Naming + Send + Sync, D: Disk + Send + Drop, O: Outlet, R: Threa
     (flusher.into_disk(), done, rest)
 }
 
-/// Opens a device, hands in what its port hasn't accepted of `input`, lets workers make turns, stores what they did, and prints and
-/// confirms what the port shows. Answers the device, the number that the next entry gets, and what is left to do in the network: it
-/// says that each node has halted, or that nothing is left, only where that is so where the entries below that number lead.
+/// Runs the network of a device, in this order:
+/// - It opens the device.
+/// - It hands in what its port hasn't accepted of `input`.
+/// - The workers make their turns, and what they did is stored.
+/// - It prints what the port shows, and confirms that.
 ///
-/// Whatever a crash leaves at any moment of the call is what one just before might have left, or opens to where a prefix of the journal
-/// leads, with all that the device had. After a run that was done it has each entry below the number that is answered: among them are
-/// those of the input, behind what the device had, and the one that confirms what was printed; all others behind what the device had were
-/// made by turns of the workers. However the call ends, what it printed
-/// are outputs of the port where entries of that journal lead that whatever a crash leaves from then on has: all of them, or fewer where the
-/// output can't be written. Each call of `out` is for all of them that it hasn't taken, while the device stands so, until it has taken all
-/// or a call has failed. A fault tells its reason: what opening answers, or what is wrong with the job; and a call of the device has failed
-/// just where that is told.
+/// Answers the device, the number that the next entry gets, and what is left to do in the network. If that says that each node has halted, or that
+/// nothing is left, it is true of the network to which the entries below that number lead. `Busy` claims nothing.
+///
+/// A crash at any moment of the call leaves one of two things. Either a crash just before the call might have left it, too; or it opens to the
+/// network that a prefix of the journal leads to. That prefix has all that the device had. After a finished run the prefix has each entry below the
+/// answered number. Among them are those of the input and the one that confirms what was printed; the workers' turns made all others since the
+/// opening.
+///
+/// However the call ends, what it printed are outputs of the port, and whatever a crash leaves from then on has the entries that lead to them. If the
+/// output can't be written, fewer than all of them were printed. Each call of `out` is for all outputs that it hasn't taken. The calls end when it
+/// has taken all or one has failed, and until then the device's state stays as it is.
+///
+/// A fault tells its reason: that the device isn't opened, what is wrong with the job, or what failed later. It says that a call of the device failed
+/// exactly if one did.
 #[inline(never)]
 pub fn run<D: Disk + Send + Drop, O: Outlet, R: Threads + Wait + Sync>(
     rt: &R,

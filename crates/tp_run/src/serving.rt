@@ -1,11 +1,7 @@
-//! What a run does with a network in threads, and its flusher.
+//! What a run does with a network in threads, and with its flusher.
 
 ghost use Rattle.std.specs.Prelude.{◌≡◌, ◌<◌, ◌≤◌, ◌++◌, [], All, flat_map, length, vec_len, IfErr, IfOk, OnErr, Some};
-ghost use Rattle.tp_flush.specs.Known.{Began};
-ghost use Rattle.tp_flush.specs.Flushing.{IsSameProcess, Walked, position};
-ghost use Rattle.tp_flush.specs.Settled.{SlipsStand};
-ghost use Rattle.tp_flush.specs.All.{AreAll};
-ghost use Rattle.tp_model.specs.WriteOrder.{Resting};
+ghost use Rattle.tp_run.specs.Lower.{Began, IsSameProcess, Walked, position, SlipsStand, AreAll, Resting};
 ghost use Rattle.tp_run.specs.Failures.{CountsFailures, failures_after, has_failed};
 ghost use Rattle.tp_run.specs.Faults.{ComesBegun, ComesBehind, IsLate, IsOfferFault, IsSilent};
 ghost use Rattle.tp_run.specs.Input.{IsForInput, input_slips, rest_at};
@@ -34,7 +30,7 @@ use tp_flush::Flusher;
 use tp_shared::{Locked, Naming, NoGate, Shared};
 use tp_work::{Net, Seat};
 
-/// Hands in the input, under the book's lock. `seat` gets the slips.
+/// Hands in the input, under the book's lock. `seat` gets the slips. Fails as `offer_at` does, and then `seat` stays as it was.
 fn offer<J: Naming, R: Wait>(
     rt: &R,
     shared: &Shared<J>,
@@ -53,8 +49,8 @@ fn offer<J: Naming, R: Wait>(
     offer_at(&mut held, seat, outset, input)
 }
 
-/// Prints and confirms, under the book's lock, what `mark` shows, which the flusher raised. What is printed are outputs of the port where
-/// the flusher's journal leads. `seat` gets the slip.
+/// Prints and confirms, under the book's lock, what `mark` shows, which the flusher raised. What it prints are outputs of the port in a network to
+/// which the flusher's journal leads. `seat` gets the slip. Fails as `print_from` does.
 fn print_settled<J: Naming, D: Disk, O: Outlet>(
     held: &mut Locked<J>,
     seat: &mut tp_shared::Seat<J>,
@@ -78,7 +74,7 @@ fn print_settled<J: Naming, D: Disk, O: Outlet>(
     print_from(held, seat, flusher, outset, mark, out)
 }
 
-/// Takes the book's lock, and prints and confirms under it. `seat` gets the slip.
+/// Takes the book's lock, and prints and confirms as `print_settled` does. `seat` gets the slip.
 fn print<J: Naming, D: Disk, O: Outlet, R: Wait>(
     rt: &R,
     shared: &Shared<J>,
@@ -104,8 +100,8 @@ fn print<J: Naming, D: Disk, O: Outlet, R: Wait>(
     print_settled(&mut held, seat, flusher, outset, mark, out)
 }
 
-/// Lets workers make turns, and the flusher its own in a thread of its own meanwhile, if one can be made, and else after them. Answers
-/// the flusher, and the seats with the slips of what the turns made.
+/// Lets the workers make their turns. The flusher makes its own meanwhile in another thread, or after them if no thread can be made. Answers the
+/// flusher, and the seats with the slips of what the turns made.
 #[inline(never)]
 fn work<J: Naming + Send + Sync, D: Disk + Send + Drop, R: Threads + Wait + Sync>(
     rt: &R,
@@ -140,8 +136,8 @@ fn work<J: Naming + Send + Sync, D: Disk + Send + Drop, R: Threads + Wait + Sync
     )
 }
 
-/// Settles the host's seat and the workers' with the flusher, under the book's lock, once its last flush is done: they have all that
-/// was journalled from the number `first` on, below `next`, which it answers. It changes nothing.
+/// Checks, under the book's lock and after the last flush, that the seats of the host and the workers have exactly the slips of all entries from
+/// `first` on. The next number must be `next`. Answers `next`, or fails with `Unaccounted`. Changes nothing.
 fn settle<J: Naming, D: Disk, R: Wait>(
     rt: &R,
     shared: &Shared<J>,
@@ -166,9 +162,9 @@ fn settle<J: Naming, D: Disk, R: Wait>(
     account(&mut held, flusher, first, next, seats, host)
 }
 
-/// Flushes, prints what is shown, confirms it, and flushes again. Answers the number that the next entry gets. The journal then has what is in the
-/// host's seat (the slips of the input) and what confirms the output; with what the workers made that is all of it since the opening. What was
-/// printed are outputs of the port where it leads, however it ends.
+/// Flushes, prints what is shown, confirms it, and flushes again. Answers the number that the next entry gets. All that was journalled since the
+/// opening is then in the journal: the workers' entries, those of the host's seat (the input's), and the one that confirms the output. However it
+/// ends, what was printed are outputs of the port in a network to which the journal leads.
 #[inline(never)]
 fn finish<J: Naming, D: Disk, O: Outlet, R: Wait>(
     rt: &R,
@@ -208,8 +204,9 @@ fn finish<J: Naming, D: Disk, O: Outlet, R: Wait>(
     settle(rt, shared, flusher, outset.next, next, seats, host)
 }
 
-/// Hands in the input, lets the workers make their turns, and prints and confirms what is shown then. Answers the number that the
-/// next entry gets. The seat `host` gets the slips of what is handed in and confirmed.
+/// Hands in the input, lets the workers make their turns, and prints and confirms what is shown then. Answers the flusher, and the number that the
+/// next entry gets. The seat `host` gets the slips of what is handed in and confirmed. If the input is refused, it fails before any turn; else it
+/// fails as `finish` does.
 #[inline(never)]
 pub(crate) fn serve<
     J: Naming + Send + Sync,

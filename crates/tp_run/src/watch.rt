@@ -9,21 +9,21 @@ use std::time::Duration;
 /// How many turns are drawn until the entries are counted anew, and the flusher has a turn to make though none was made.
 const LOOK_TURNS: u64 = 64;
 
-/// How many microseconds the flusher sleeps if nothing was made. No turn wakes it, so what is journalled then, and the mark with it,
-/// waits for the device and for one such sleep.
+/// How many microseconds the flusher sleeps if no entry was made. No turn wakes it, so a new entry waits for the device and for one such sleep until
+/// the mark is above it.
 const SLEEP: u64 = 500;
 
 /// The first worker hasn't begun to make turns.
 const UNBEGUN: u64 = 0;
 
-/// It makes turns.
+/// The first worker makes turns.
 const MAKES_TURNS: u64 = 1;
 
 /// No turn is left, or the store has failed.
 const ENDED: u64 = 2;
 
-/// At how many made entries it is worth checking the book again, after `made` were made and `missing` were missing then. `missing` is 0 if a snapshot
-/// has begun or can't begin: then it isn't worth it until `count_anew`.
+/// Gives at how many made entries to check the book again, if `missing` entries were missing after `made` were made. If `missing` is 0, a snapshot
+/// has begun or can't begin; then nothing is checked until `count_anew`.
 fn due_behind(made: u64, missing: u64) -> u64
     ensures soon { 0 < missing → result ≤ made + missing }
     ensures later { 0 < missing → made < 2 ^ 64 - 1 → made < result }
@@ -36,9 +36,14 @@ fn due_behind(made: u64, missing: u64) -> u64
     }
 }
 
-/// How many turns there are, and how many were drawn; entries made, or a greater number; whether the workers have ended; how many entries since the
-/// kept cut begin a snapshot (`every`), and at how many made entries there may be as many (`due`); and what the first worker does (`first`). It needs
-/// no lock.
+/// What workers and the flusher share without a lock:
+/// - `turns`: how many turns there are
+/// - `drawn`: how many of them were drawn
+/// - `made`: how many entries were made, or a greater number
+/// - `ended`: whether the workers have ended
+/// - `every`: how many entries since the kept cut begin a snapshot
+/// - `due`: at how many made entries there may be as many
+/// - `first`: whether the first worker has begun, makes turns, or has ended
 #[derive(Drop)]
 pub(crate) struct Watch {
     turns: u64,
@@ -51,7 +56,7 @@ pub(crate) struct Watch {
 }
 
 impl Watch {
-    /// A watch over a round of `turns` turns, in which `every` entries begin a snapshot.
+    /// Begins a watch over `turns` turns, in which `every` entries since the kept cut begin a snapshot.
     pub(crate) fn new(turns: u32, every: u64) -> Watch
         ensures { (result.turns ≡ turns) × (result.every ≡ every) }
     {
@@ -88,7 +93,7 @@ impl Watch {
         is_left
     }
 
-    /// Wakes the workers that rest, since no turn is left, or each would be refused.
+    /// Wakes the workers that rest, because no turn is left, or because each would be refused.
     pub(crate) fn end_rests(&self) {
         self.first.store(ENDED, Ordering::SeqCst);
         self.first.wake_all();
@@ -99,20 +104,20 @@ impl Watch {
         self.first.store(MAKES_TURNS, Ordering::SeqCst);
     }
 
-    /// Sleeps for `micros` microseconds, or until rests end; not at all if the first worker makes no turns.
+    /// Rests for `micros` microseconds, or until rests end. Doesn't rest unless the first worker makes turns.
     pub(crate) fn rest<R: Wait>(&self, rt: &R, micros: u64) {
         self.first
             .park_timeout(rt, MAKES_TURNS as u32, Duration::from_micros(micros));
     }
 
-    /// Tells that a turn made `count` entries, or fewer. The flusher sees it while it is awake, and once it has slept.
+    /// Tells that a turn made at most `count` entries. The flusher reads it when it is awake, or when its sleep is over.
     pub(crate) fn tell(&self, count: u64) {
         if count > 0 {
             self.made.fetch_add(count, Ordering::SeqCst);
         }
     }
 
-    /// The count of entries made, if it has come to `due`: since the kept cut there may be `every` then.
+    /// Gives the count of entries made if there may be `every` since the kept cut, so that the book is worth checking; else `None`.
     pub(crate) fn made_when_due(&self) -> Option<u64> {
         let made = self.made.load(Ordering::SeqCst);
         if made < self.due.load(Ordering::SeqCst) {
@@ -121,12 +126,12 @@ impl Watch {
         Some(made)
     }
 
-    /// Once `made` entries were made, `missing` were wanting until a snapshot begins.
+    /// Notes that `missing` entries were missing for a snapshot after `made` were made.
     pub(crate) fn set_due(&self, made: u64, missing: u64) {
         self.due.store(due_behind(made, missing), Ordering::SeqCst);
     }
 
-    /// The entries since the kept cut are counted before the next turn.
+    /// Makes a worker count the entries since the kept cut before its next turn.
     pub(crate) fn count_anew(&self) {
         self.due.store(0, Ordering::SeqCst);
     }
@@ -138,8 +143,8 @@ impl Watch {
         self.made.wake_one();
     }
 
-    /// Waits until another number of entries was made than `seen`, and answers it; `None` once the workers have ended. While none were made it sleeps
-    /// for [`SLEEP`] microseconds, and checks again.
+    /// Waits until the count of made entries isn't `seen`, and answers it; `None` once the workers have ended. Until then it sleeps for [`SLEEP`]
+    /// microseconds, checks, and sleeps again.
     pub(crate) fn wait<R: Wait>(&self, rt: &R, seen: u64) -> Option<u64> {
         for _ in rt.forever() {
             if self.ended.load(Ordering::SeqCst) {

@@ -13,8 +13,8 @@ use std::thread::Threads;
 use tp_shared::{Naming, NoGate, Shared};
 use tp_work::{Net, Seat, Turn, TurnFault};
 
-/// How many entries to tell for a turn that made `made`: at least one if it was refused for lack of room or memory, since the flusher's turn may give
-/// some.
+/// Gives how many entries to tell for a turn that made `made`. If the turn was refused for lack of room or memory, that is at least one, since a turn
+/// of the flusher may make room.
 fn told_of(done: &Result<Turn, TurnFault>, made: u64) -> u64
     ensures no_fewer { made ≤ result }
     ensures made { IfOk done.now (λ turn. result ≡ made) }
@@ -26,7 +26,7 @@ fn told_of(done: &Result<Turn, TurnFault>, made: u64) -> u64
     }
 }
 
-/// How many steps a turn had: 0 if it was refused, or was the host's.
+/// Gives how many steps a turn had: 0 if it was refused or was the host's.
 fn steps_of(done: &Result<Turn, TurnFault>) -> u16
     ensures made { IfOk done.now (λ turn. IfSome turn.ran (λ ran. result ≡ ran.count)) }
     ensures none { IfErr done.now (λ fault. result ≡ 0) }
@@ -38,14 +38,15 @@ fn steps_of(done: &Result<Turn, TurnFault>) -> u16
     }
 }
 
-/// Whether a worker makes further turns after this one: not once the store has failed, since that is final, and each turn of a node would be refused.
+/// Whether a worker makes more turns after this one. Once the store has failed it makes none: that is final, and each turn of a node would be
+/// refused.
 fn may_go_on(done: &Result<Turn, TurnFault>) -> bool
     ensures { (result ≡ false) ↔ (done.now ≡ Err TurnFault.StoreBroken) }
 {
     !matches!(done, Err(TurnFault::StoreBroken))
 }
 
-/// Begins a snapshot if it is time; ignores a refusal. Takes no lock before enough entries may have been made.
+/// Begins a snapshot if it is time, and ignores a refusal. Takes no lock until enough entries may have been made.
 fn begin<J: Naming, R: Wait>(rt: &R, alloc: Global, shared: &Shared<J>, watch: &Watch) {
     let Some(made) = watch.made_when_due() else {
         return;
@@ -56,8 +57,8 @@ fn begin<J: Naming, R: Wait>(rt: &R, alloc: Global, shared: &Shared<J>, watch: &
     watch.set_due(made, missing_in(&held, watch.every()));
 }
 
-/// Makes turns until none is left, or the store has failed: after a turn refused for that it makes none. A refused turn counts. It never waits for
-/// the flusher; a worker that `helps` rests while turns are short. `seat` has the slips of exactly these turns.
+/// Makes turns until none is left, or until one is refused because the store has failed. Other refused turns count as turns. It never waits for the
+/// flusher; a worker that `helps` rests while turns are short. `seat` gets the slips of exactly these turns.
 fn work<J: Naming, R: Wait>(
     rt: &R,
     alloc: Global,
@@ -98,8 +99,8 @@ fn work<J: Naming, R: Wait>(
     }
 }
 
-/// Lets a worker at each seat make turns until none is left, or the store has failed, each in a thread of its own if one can be made, and then tells
-/// the flusher. The first worker never rests; the others rest only while it makes turns.
+/// Lets a worker at each seat make turns until none is left or the store has failed, and then tells the flusher. Each worker has a thread of its own
+/// if one can be made. The first worker never rests; the others rest only while the first makes turns.
 pub(crate) fn work_all<J: Naming + Send + Sync, R: Threads + Wait + Sync>(
     rt: &R,
     alloc: Global,

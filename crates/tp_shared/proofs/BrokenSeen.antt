@@ -1,11 +1,6 @@
 -- What was seen broken stays broken.
 use Rattle.std.proofs.Common.{◌≡◌, ℕ, zero, suc, Bool, true, List, [], ◌∷◌, ◌++◌, map, refl, sym, ap, subst, ◌∙◌}
-use Rattle.std.specs.List.{AllByRecursion}
-use Rattle.std.proofs.lemmas.List.{map-append}
-use mathlib.Core.List.{cons≢nil}
-use Rattle.tp_law_machine.proofs.Partial.{all_append}
-use Rattle.tp_token.specs.Sound.{Sound, item_of}
-use Rattle.tp_book.specs.Book.{BookValue}
+use Rattle.tp_shared.proofs.Lower.{AllByRecursion, map-append, cons≢nil, all_append, Sound, item_of, BookValue}
 use Rattle.tp_shared.specs.BrokenSeen.{BrokenSince, StayBroken}
 
 -- nothing was seen

@@ -1,19 +1,6 @@
--- Lines that are closed, also behind other tokens, under the book's lock.
+-- Lines that are closed, even if other tokens come before the Marker, under the book's lock.
 use Rattle.std.proofs.Common.{◌≡◌, ℕ, Bool, true, false, cond, zero, suc, List, [], ◌∷◌, ◌++◌, length, refl, sym, ap, subst, ◌∙◌, Some, slice_get}
-use Rattle.std.specs.List.{AllByRecursion}
-use Rattle.tp_model.specs.declared.entry.Entry.{Entry}
-use Rattle.tp_model.specs.Acts.{Act, Close, Record}
-use Rattle.tp_model.specs.Runs.{is_trim}
-use Rattle.tp_law_machine.proofs.Partial.{all_append}
-use Rattle.tp_book.specs.Book.{BookValue}
-use Rattle.tp_book.specs.Marked.{is_closable}
-use Rattle.tp_turn.specs.Turns.{InOrder}
-use Rattle.tp_turn.specs.Moments.{Done, TurnMoment, entries_among}
-use Rattle.tp_turn.specs.Hosted.{HostDone}
-use Rattle.tp_turn.specs.Over.{ClosesOver, ClosesAll}
-use Rattle.tp_turn.proofs.Adding.{entries_more}
-use Rattle.tp_turn.specs.Settled.{Records}
-use Rattle.tp_book.specs.Needs.{is_asked}
+use Rattle.tp_shared.proofs.Lower.{AllByRecursion, Entry, Act, Close, Record, is_trim, all_append, BookValue, is_closable, InOrder, Done, TurnMoment, entries_among, HostDone, ClosesOver, ClosesAll, entries_more, Records, is_asked}
 use Rattle.tp_shared.specs.Agreement.{at_rest}
 use Rattle.tp_shared.specs.BookActs.{NodeActed, HostActed}
 use Rattle.tp_shared.proofs.Holding.{acted_free}

@@ -1,11 +1,7 @@
 -- What is copied of a whole cut.
 use Rattle.std.proofs.Common.{◌≡◌, ℕ, ◌+◌, Bool, true, false, not, List, [], ◌∷◌, ◌++◌, take, refl, sym, ap, ◌∙◌, Option, Some, None, slice_get}
 use Rattle.std.specs.Prelude.{◌&&◌, Result, Ok, Err, IfOk, IfSome, is_some}
-use Rattle.std.specs.List.{AllByRecursion, list_all}
-use Rattle.std.proofs.lemmas.Bool.{and_parts}
-use Rattle.std.proofs.lemmas.List.{take_more}
-use Rattle.std.proofs.lemmas.Option.{get_or_from_slice_get, slice_get_within}
-use Rattle.tp_book.proofs.Stood.{no_act}
+use Rattle.tp_shared.proofs.Lower.{AllByRecursion, list_all, and_parts, take_more, get_or_from_slice_get, slice_get_within, no_act}
 use Rattle.tp_shared.specs.CopiedTail.{has_copy}
 use Rattle.tp_shared.specs.Told.{ToldSince}
 use Rattle.tp_shared.specs.declared.seal.NodeSeal.{NodeSeal}

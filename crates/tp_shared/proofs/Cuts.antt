@@ -1,19 +1,6 @@
 -- A whole cut under the book's lock.
 use Rattle.std.proofs.Common.{◌≡◌, ℕ, true, false, List, [], ◌∷◌, ap, subst, ◌∙◌, Some}
-use Rattle.std.specs.List.{AllByRecursion}
-use Rattle.tp_model.specs.NodeState.{NodeState}
-use Rattle.tp_model.specs.Node.{t414}
-use Rattle.tp_model.specs.Snapshot.{MarkedNetwork}
-use Rattle.tp_model.specs.WholeCut.{WholeCut}
-use Rattle.tp_model.specs.Acts.{Act, happens, acted}
-use Rattle.tp_model.specs.Runs.{is_trim, HasCut}
-use Rattle.tp_law_machine.proofs.LinkLaws.{has_four_links, never_marks}
-use Rattle.tp_law_network.proofs.Partial.{bind_some}
-use Rattle.tp_law_network.specs.Invariant.{CutInvariant}
-use Rattle.tp_law_network.proofs.Happens.{happens_holds}
-use Rattle.tp_law_network.proofs.Stays.{cut_stays}
-use Rattle.tp_law_network.proofs.Whole.{whole_parts, parts_recorded}
-use Rattle.tp_book.specs.Needs.{has_recorded_in}
+use Rattle.tp_shared.proofs.Lower.{AllByRecursion, NodeState, t414, MarkedNetwork, WholeCut, Act, happens, acted, is_trim, HasCut, has_four_links, never_marks, bind_some, CutInvariant, happens_holds, cut_stays, whole_parts, parts_recorded, has_recorded_in}
 
 module _ (cut : WholeCut) (nodes : List NodeState) where
   -- a whole cut stays through acts

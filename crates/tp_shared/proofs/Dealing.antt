@@ -1,9 +1,7 @@
 -- Nodes that are dealt to the cells one after another.
-use Rattle.std.proofs.Common.{◌≡◌, ◌≢◌, ℕ, zero, suc, ◌+◌, ◌*◌, ◌/◌, ◌%◌, ◌<◌, ◌≤◌, cond, eqb, inl, inr, List, [], ◌∷◌, ◌++◌, length, get_or, refl, sym, ap, subst, ◌∙◌, arith, Some, slice_get, length-append, eq-eqb, ne_eqb}
+use Rattle.std.proofs.Common.{◌≡◌, ◌≢◌, ℕ, zero, suc, ◌+◌, ◌*◌, ◌/◌, ◌%◌, ◌<◌, ◌≤◌, cond, eqb, inl, inr, List, [], ◌∷◌, ◌++◌, length, get_or, refl, sym, ap, subst, ◌∙◌, arith, Some, slice_get, length-append, eq-eqb}
 use Rattle.std.specs.Prelude.{◌-◌}
-use Rattle.std.proofs.lemmas.Bool.{cases_eq}
-use Rattle.std.proofs.lemmas.Option.{slice_get_within}
-use Rattle.tp_book.specs.Book.{BookValue}
+use Rattle.tp_shared.proofs.Lower.{ne_eqb, cases_eq, slice_get_within, BookValue}
 use Rattle.tp_shared.specs.Cells.{IsPlaceOf, AreOfCell}
 use Rattle.tp_shared.specs.Hands.{AreOfRow, IsEmptyHand, IsRowWith, with_place}
 use Rattle.tp_shared.specs.Seals.{IsSealOf, Sealed}

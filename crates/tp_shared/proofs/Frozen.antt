@@ -1,22 +1,7 @@
 -- The image of a node that recorded, under the book's lock.
-use Rattle.std.proofs.Common.{◌≡◌, ◌≢◌, inl, inr, ℕ, zero, suc, ◌+◌, ◌-◌, ◌*◌, ◌<◌, true, cond, List, [], ◌∷◌, length, get_or, set, take, drop, refl, sym, ap, subst, ◌∙◌, arith, Option, Some, None, slice_get, get_or-set_other, get_or-set_same}
-use Rattle.std.specs.Prelude.{IfSome, is_some, slice_range}
-use Rattle.std.specs.Option.{option_map}
-use Rattle.std.proofs.lemmas.Bool.{cases_lt, ne_eqb}
-use Rattle.tp_model.specs.declared.limits.TheConstants.{PAGE_BYTES}
-use Rattle.tp_model.specs.NodeState.{NodeState}
-use Rattle.tp_model.specs.Node.{t414}
-use Rattle.tp_model.specs.Network.{OfNode, OfHost, own}
-use Rattle.tp_model.specs.Snapshot.{Snapshot, MarkedNetwork, has_recorded}
-use Rattle.tp_model.specs.FrozenAs.{IsFrozenAs}
-use Rattle.tp_law_machine.proofs.LinkLaws.{has_four_links}
-use Rattle.tp_law_network.proofs.Local.{own-node}
-use Rattle.tp_law_network.specs.Invariant.{CutInvariant, as_recorded}
-use Rattle.tp_law_network.proofs.Shape.{mid_nodes}
-use Rattle.tp_law_network.proofs.Whole.{running}
-use Rattle.tp_book.specs.Needs.{has_recorded_in}
-use Rattle.tp_book.specs.Book.{BookValue, agreed, world_of}
-use Rattle.tp_book.proofs.Remarked.{running_in}
+use Rattle.std.proofs.Common.{◌≡◌, ◌≢◌, inl, inr, ℕ, zero, suc, ◌+◌, ◌*◌, ◌<◌, true, cond, List, [], ◌∷◌, length, get_or, set, take, drop, refl, sym, ap, subst, ◌∙◌, arith, Option, Some, None, slice_get, get_or-set_other, get_or-set_same}
+use Rattle.std.specs.Prelude.{◌-◌, IfSome, is_some, slice_range}
+use Rattle.tp_shared.proofs.Lower.{option_map, cases_lt, ne_eqb, PAGE_BYTES, NodeState, t414, OfNode, OfHost, own, Snapshot, MarkedNetwork, has_recorded, IsFrozenAs, has_four_links, own-node, CutInvariant, as_recorded, mid_nodes, running, has_recorded_in, BookValue, agreed, world_of, running_in}
 use Rattle.tp_shared.specs.Pieces.{AreFrozenPages, ArePagesOf, IsPageOf}
 use Rattle.tp_shared.proofs.Sealing.{get_within}
 

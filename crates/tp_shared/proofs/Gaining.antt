@@ -1,14 +1,7 @@
 -- What a node's turn did, and what its seat gained, by how it was opened.
 use Rattle.std.proofs.Common.{◌≡◌, ℕ, ◌≤◌, inl, inr, List, [], ◌++◌, sym, ap, subst, ◌∙◌}
 use Rattle.std.specs.Prelude.{Ok}
-use Rattle.std.specs.List.{enumerate_from}
-use Rattle.std.proofs.lemmas.List.{append-nil}
-use Rattle.tp_model.specs.declared.entry.Entry.{Entry}
-use Rattle.tp_model.specs.NodeState.{NodeState}
-use Rattle.tp_model.specs.Network.{Network}
-use Rattle.tp_turn.specs.declared.opened.Opened.{Opened}
-use Rattle.tp_turn.specs.declared.opened.Opened.TheVariants.{Apart, Whole}
-use Rattle.tp_turn.specs.Opened.{opened_entries, taken_in}
+use Rattle.tp_shared.proofs.Lower.{enumerate_from, append-nil, Entry, NodeState, Network, Opened, Apart, Whole, opened_entries, taken_in}
 use Rattle.tp_shared.specs.Entries.{CountedTakes, OpenedEntries}
 use Rattle.tp_shared.specs.Gains.{Gained}
 use Rattle.tp_shared.specs.NodeTurned.{NodeTurned}

@@ -1,18 +1,7 @@
 -- The nodes with kept pages, as seals change.
 use Rattle.std.proofs.Common.{◌≡◌, ℕ, zero, suc, Bool, true, false, not, inl, inr, List, [], ◌∷◌, set, refl, sym, ap, subst, ◌∙◌, Some, slice_get, get_or-set_other}
 use Rattle.std.specs.Prelude.{◌&&◌}
-use Rattle.std.specs.List.{AllByRecursion, list_all}
-use Rattle.std.proofs.lemmas.Bool.{cases_eq}
-use Rattle.tp_law_machine.proofs.Partial.{bind_some, slice_get-set_same}
-use Rattle.tp_model.specs.NodeState.{NodeState}
-use Rattle.tp_model.specs.Node.{t414}
-use Rattle.tp_model.specs.Snapshot.{MarkedNetwork}
-use Rattle.tp_model.specs.FrozenAs.{IsFrozenAs}
-use Rattle.tp_model.specs.Acts.{Act, happens, acted}
-use Rattle.tp_model.specs.Runs.{is_trim}
-use Rattle.tp_law_device.proofs.Frozen.{frozen_as_stays}
-use Rattle.tp_book.specs.Needs.{has_recorded_in}
-use Rattle.tp_book.specs.Book.{BookValue, world_of}
+use Rattle.tp_shared.proofs.Lower.{AllByRecursion, list_all, cases_eq, bind_some, slice_get-set_same, NodeState, t414, MarkedNetwork, IsFrozenAs, Act, happens, acted, is_trim, frozen_as_stays, has_recorded_in, BookValue, world_of}
 use Rattle.tp_shared.specs.Frozen.{frozen_in, keeps_pages, none_kept, StayGone}
 use Rattle.tp_shared.specs.declared.seal.NodeSeal.{NodeSeal}
 

@@ -1,32 +1,7 @@
 -- What a hold of the book's lock does for a node.
-use Rattle.std.proofs.Common.{◌≡◌, ℕ, zero, suc, Bool, true, false, inl, inr, List, [], ◌∷◌, length, set, get_or, refl, sym, ap, subst, ◌∙◌, Option, Some, None, slice_get}
-use Rattle.std.specs.Prelude.{◌+◌, ◌*◌, Result, Ok, Err, IfErr}
-use Rattle.std.specs.List.{AllByRecursion}
-use Rattle.tp_law_network.proofs.Local.{process_same}
-use Rattle.tp_model.specs.declared.entry.Entry.{Entry}
-use Rattle.tp_model.specs.declared.entry.Entry.TheVariants.{Run, Take, HostIn, Confirm, Turn}
-use Rattle.tp_model.specs.declared.form.Form.{Form}
-use Rattle.tp_model.specs.declared.form.Form.TheVariants.{Plain, Turns}
-use Rattle.tp_model.specs.declared.link.Received.{Received}
-use Rattle.tp_model.specs.NodeState.{NodeState}
-use Rattle.tp_model.specs.Network.{Network, back}
-use Rattle.tp_model.specs.Acts.{Act}
-use Rattle.tp_model.specs.Runs.{is_trim}
-use Rattle.tp_book.proofs.Lists.{set_back}
-use Rattle.tp_node.specs.NodeContents.{NodeContents}
-use Rattle.tp_book.specs.declared.refusal.Refusal.{Refusal}
-use Rattle.tp_book.specs.declared.refusal.Refusal.TheVariants.{JournalFull, StoreBroken, Memory, NothingToTake, SnapshotRunning, PortFull}
-use Rattle.tp_book.specs.Book.{BookValue, agreed}
-use Rattle.tp_book.specs.Calls.{with_run, without_run}
-use Rattle.tp_book.specs.Refusals.{else_if, is_journal_full, reserve_refusal, IsAnswer}
-use Rattle.tp_turn.specs.declared.opened.Opened.{Opened}
-use Rattle.tp_turn.specs.declared.opened.Opened.TheVariants.{Apart, Whole}
-use Rattle.tp_turn.specs.Moments.{TurnMoment, entries_among, Added}
-use Rattle.tp_turn.specs.Fronts.{EndsTurn, OnWire}
-use Rattle.tp_turn.specs.Opened.{IsOpenedIn, OpensIn, opened_acts, opened_entries}
-use Rattle.tp_turn.specs.Stages.{Breaks}
-use Rattle.tp_turn.proofs.MarkActs.{breaks_whole_listed, breaks_whole_untrimmed, closes_listed, closes_untrimmed, opened_listed, opened_untrimmed}
-use Rattle.tp_turn.proofs.Opening.{opens_form, whole_refused}
+use Rattle.std.proofs.Common.{◌≡◌, ℕ, zero, suc, Bool, true, false, inl, inr, List, [], ◌∷◌, length, set, get_or, refl, sym, ap, subst, ◌∙◌, Option, Some, None, slice_get, ◌+◌, ◌*◌}
+use Rattle.std.specs.Prelude.{Result, Ok, Err, IfErr}
+use Rattle.tp_shared.proofs.Lower.{AllByRecursion, process_same, Entry, Run, Take, HostIn, Confirm, Turn, Form, Plain, Turns, Received, NodeState, Network, back, Act, is_trim, set_back, NodeContents, Refusal, JournalFull, StoreBroken, Memory, NothingToTake, SnapshotRunning, PortFull, BookValue, agreed, with_run, without_run, else_if, is_journal_full, reserve_refusal, IsAnswer, Opened, Apart, Whole, TurnMoment, entries_among, Added, EndsTurn, OnWire, IsOpenedIn, OpensIn, opened_acts, opened_entries, Breaks, breaks_whole_listed, breaks_whole_untrimmed, closes_listed, closes_untrimmed, opened_listed, opened_untrimmed, opens_form, whole_refused}
 use Rattle.tp_shared.specs.Agreement.{Agreement, answered_with, at_rest, takes_opened}
 use Rattle.tp_shared.specs.BookActs.{Grown, NodeActed}
 use Rattle.tp_shared.specs.Entries.{IsTurnRefusal, OpenedEntries, AreTakes, TakesOf}

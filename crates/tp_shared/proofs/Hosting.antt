@@ -1,29 +1,7 @@
 -- What the host does to a book.
 use Rattle.std.proofs.Common.{◌≡◌, ℕ, Bool, true, false, cond, List, [], ◌∷◌, ◌++◌, map, length, refl, sym, ap, ◌∙◌, Option, Some, None}
 use Rattle.std.specs.Prelude.{nat_le, is_some, Result, Ok, Err, IfErr}
-use Rattle.std.specs.List.{AllByRecursion, range_with_len}
-use Rattle.std.proofs.lemmas.List.{append-nil, length-map}
-use Rattle.tp_model.specs.declared.entry.Entry.{Entry}
-use Rattle.tp_model.specs.declared.entry.Entry.TheVariants.{HostIn, Confirm}
-use Rattle.tp_model.specs.declared.wire.WireEnd.{WireEnd}
-use Rattle.tp_model.specs.Node.{t414}
-use Rattle.tp_model.specs.Entries.{process}
-use Rattle.tp_model.specs.Acts.{Act, Begin, Journal, happens, acted}
-use Rattle.tp_model.specs.Runs.{is_trim}
-use Rattle.tp_book.specs.Needs.{has_recorded_in}
-use Rattle.tp_book.specs.declared.refusal.Refusal.{Refusal}
-use Rattle.tp_book.specs.declared.refusal.Refusal.TheVariants.{JournalFull, StoreBroken, Memory, NothingToTake, SnapshotRunning, PortFull}
-use Rattle.tp_book.specs.Acts.{input_acts, confirm_acts, confirm_entries}
-use Rattle.tp_book.specs.Book.{BookValue, agreed, next_in_book, world_of}
-use Rattle.tp_book.specs.Host.{after_inputs, after_confirm, with_confirmed, port_in}
-use Rattle.tp_model.specs.Journal.{is_full_for_snapshot}
-use Rattle.tp_model.specs.Snapshot.{Snapshot}
-use Rattle.tp_book.specs.Marked.{after_begin, begin_refusal}
-use Rattle.tp_book.specs.Refusals.{else_if, IsAnswer}
-use Rattle.tp_book.proofs.Stood.{one_act}
-use Rattle.tp_turn.specs.Moments.{entries_among}
-use Rattle.tp_turn.specs.Hosted.{HostAdded, HostDone, HostTurns}
-use Rattle.tp_turn.proofs.Fronted.{collected_recorded}
+use Rattle.tp_shared.proofs.Lower.{AllByRecursion, range_with_len, append-nil, length-map, Entry, HostIn, Confirm, WireEnd, t414, process, Act, Begin, Journal, happens, acted, is_trim, has_recorded_in, Refusal, JournalFull, StoreBroken, Memory, NothingToTake, SnapshotRunning, PortFull, input_acts, confirm_acts, confirm_entries, BookValue, agreed, next_in_book, world_of, after_inputs, after_confirm, with_confirmed, port_in, is_full_for_snapshot, Snapshot, after_begin, begin_refusal, else_if, IsAnswer, one_act, entries_among, HostAdded, HostDone, HostTurns, collected_recorded}
 use Rattle.tp_shared.specs.BookActs.{Grown, HostActed}
 use Rattle.tp_shared.specs.Entries.{TakesOf, IsTurnRefusal}
 use Rattle.tp_shared.proofs.Untrimmed.{untrimmed, taken, host_turns}

@@ -1,13 +1,6 @@
 -- What is under the book's lock stays together.
 use Rattle.std.proofs.Common.{◌≡◌, ℕ, ◌+◌, ◌<◌, ◌≤◌, Bool, true, List, [], ◌∷◌, ◌++◌, length, map, drop, refl, sym, ap, subst, ◌∙◌, arith, Option, Some, get_or, slice_get}
-use Rattle.std.proofs.lemmas.Option.{slice_get_read}
-use Rattle.tp_token.specs.declared.roll.Roll.{Roll}
-use Rattle.tp_token.specs.declared.twin.Seal.{Seal}
-use Rattle.tp_model.specs.declared.entry.Entry.{Entry}
-use Rattle.tp_model.specs.NodeState.{NodeState}
-use Rattle.tp_model.specs.Network.{Network}
-use Rattle.tp_model.specs.Runs.{World}
-use Rattle.tp_book.specs.Book.{BookValue, next_in_book, world_of}
+use Rattle.tp_shared.proofs.Lower.{slice_get_read, Roll, Seal, Entry, NodeState, Network, World, BookValue, next_in_book, world_of}
 use Rattle.tp_shared.specs.BookActs.{Grown, HostActed}
 use Rattle.tp_shared.specs.BrokenSeen.{BrokenSince}
 use Rattle.tp_shared.specs.Frozen.{frozen_in, StayGone}

@@ -1,3 +1,4 @@
+pub mod Lower
 pub mod Untrimmed
 pub mod Waiting
 pub mod Gone

@@ -1,15 +1,7 @@
 -- The book of an opened device beside the nodes of its network.
 use Rattle.std.proofs.Common.{◌≡◌, ℕ, zero, suc, ◌<◌, true, false, List, length, map, replicate, refl, sym, ap, subst, ◌∙◌, arith, Some, None, slice_get}
 use Rattle.std.specs.Prelude.{IsSome}
-use Rattle.std.specs.Option.{option_map}
-use Rattle.std.proofs.lemmas.List.{length-map, length-replicate}
-use Rattle.std.proofs.lemmas.Option.{slice_get-map}
-use Rattle.tp_law_machine.specs.NodeOfBytes.{IsNodeOfBytes}
-use Rattle.tp_node.specs.NodeContents.{NodeContents}
-use Rattle.tp_book.specs.declared.state.NetState.{NetState}
-use Rattle.tp_book.specs.Book.{BookValue, agreed, nodes_in}
-use Rattle.tp_book.specs.Opened.{IsWellOpen, now_of, opened_book}
-use Rattle.tp_turn.specs.Moments.{IsNodeOf}
+use Rattle.tp_shared.proofs.Lower.{option_map, length-map, length-replicate, slice_get-map, IsNodeOfBytes, NodeContents, NetState, BookValue, agreed, nodes_in, IsWellOpen, now_of, opened_book, IsNodeOf}
 
 replicate_at : (n i : ℕ) → i < n → slice_get (replicate n false) i ≡ Some false
 replicate_at zero i h = absurd (omega (arith, h))

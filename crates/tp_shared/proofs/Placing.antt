@@ -1,8 +1,6 @@
 -- Places under a node's lock.
 use Rattle.std.proofs.Common.{◌≡◌, ℕ, ◌+◌, ◌*◌, inl, inr, List, set, sym, ap, subst, ◌∙◌, arith, Some, slice_get}
-use Rattle.std.proofs.lemmas.Bool.{cases_eq}
-use Rattle.std.proofs.lemmas.List.{length-set}
-use Rattle.tp_law_machine.proofs.Partial.{slice_get-set_same, slice_get-set_other}
+use Rattle.tp_shared.proofs.Lower.{cases_eq, length-set, slice_get-set_same, slice_get-set_other}
 use Rattle.tp_shared.specs.declared.place.Place.{Place}
 use Rattle.tp_shared.specs.Cells.{IsPlaceOf, AreOfCell}
 use Rattle.tp_shared.specs.declared.cells.TheConstants.{CELLS}

@@ -1,8 +1,6 @@
 -- One seal beside an unchanged book changes.
 use Rattle.std.proofs.Common.{◌≡◌, ℕ, Bool, true, false, inl, inr, List, set, refl, sym, ap, subst, ◌∙◌, Some, None, slice_get}
-use Rattle.std.proofs.lemmas.Bool.{cases_eq}
-use Rattle.tp_law_machine.proofs.Partial.{slice_get-set_same, slice_get-set_other}
-use Rattle.tp_book.specs.Book.{BookValue}
+use Rattle.tp_shared.proofs.Lower.{cases_eq, slice_get-set_same, slice_get-set_other, BookValue}
 use Rattle.tp_shared.specs.Agreement.{Agreement}
 use Rattle.tp_shared.specs.Seals.{IsSealOf, Sealed}
 use Rattle.tp_shared.specs.declared.seal.NodeSeal.{NodeSeal}

@@ -1,17 +1,7 @@
 -- What is left to do for the nodes that were read so far.
 use Rattle.std.proofs.Common.{◌≡◌, ℕ, ◌+◌, ◌<◌, ◌≤◌, Bool, true, false, cond, List, [], ◌∷◌, length, map, drop, refl, sym, ap, ◌∙◌, arith, Some, slice_get}
 use Rattle.std.specs.Prelude.{◌&&◌}
-use Rattle.std.specs.List.{list_all}
-use Rattle.std.proofs.lemmas.List.{drop_all}
-use Rattle.tp_model.specs.declared.link.Token.{Token}
-use Rattle.tp_model.specs.NodeState.{NodeState}
-use Rattle.tp_model.specs.Markers.{is_marker, plain, plain_network}
-use Rattle.tp_node.specs.Rest.{rest_of}
-use Rattle.tp_node.specs.declared.rest.Rest.{Rest}
-use Rattle.tp_node.specs.declared.rest.Rest.TheVariants.{Halted, Quiet, Busy}
-use Rattle.tp_book.specs.Book.{BookValue, world_of}
-use Rattle.tp_book.specs.Clear.{is_clear}
-use Rattle.tp_book.proofs.Clearing.{drop_here}
+use Rattle.tp_shared.proofs.Lower.{list_all, drop_all, Token, NodeState, is_marker, plain, plain_network, rest_of, Rest, Halted, Quiet, Busy, BookValue, world_of, is_clear, drop_here}
 use Rattle.tp_shared.specs.Resting.{IsRestAt, leaves_nothing, is_empty, is_halted, rest_in}
 
 -- ## Lines

@@ -1,30 +1,7 @@
 -- Seals beside a book that grew, and its roll.
-use Rattle.std.proofs.Common.{◌≡◌, ℕ, zero, suc, ◌+◌, ◌<◌, Bool, true, false, inl, inr, List, [], ◌∷◌, ◌++◌, length, set, drop, get_or, refl, sym, ap, subst, ◌∙◌, arith, Option, Some, None, slice_get, length-append}
-use Rattle.std.specs.Prelude.{◌≤◌, ◌-◌, IsSome, is_some, Result, Ok, Err, is_ok, MatchResult}
-use Rattle.std.specs.List.{AllByRecursion, enumerate_from}
-use Rattle.std.proofs.lemmas.Bool.{cases_eq}
-use Rattle.std.proofs.lemmas.List.{append-nil, drop_at}
-use Rattle.std.proofs.lemmas.Option.{slice_get_within}
-use mathlib.Core.List.{cons≢nil}
-use Rattle.tp_law_machine.proofs.Partial.{slice_get-set_same, slice_get-set_other}
-use Rattle.tp_token.specs.Sound.{Sound, item_of}
-use Rattle.tp_model.specs.declared.entry.Entry.{Entry}
-use Rattle.tp_model.specs.declared.form.Form.TheVariants.{Turns}
-use Rattle.tp_model.specs.declared.link.Received.{Received}
-use Rattle.tp_model.specs.NodeState.{NodeState}
-use Rattle.tp_model.specs.Node.{t414}
-use Rattle.tp_model.specs.Acts.{Begin, happens}
-use Rattle.tp_law_machine.specs.NodeOfBytes.{IsNodeOfBytes}
-use Rattle.tp_node.specs.NodeContents.{NodeContents}
-use Rattle.tp_book.specs.Needs.{has_recorded_in}
-use Rattle.tp_book.specs.declared.refusal.Refusal.{Refusal}
-use Rattle.tp_book.specs.Book.{BookValue, agreed, next_in_book, world_of}
-use Rattle.tp_book.specs.Joined.{FitsRoom}
-use Rattle.tp_book.proofs.Stood.{one_act}
-use Rattle.tp_turn.specs.declared.opened.Opened.{Opened}
-use Rattle.tp_turn.specs.Moments.{IsNodeOf, entries_among}
-use Rattle.tp_turn.specs.Opened.{IsOpenedIn, sent_in, turn_received}
-use Rattle.tp_turn.proofs.Opening.{opened_behind}
+use Rattle.std.proofs.Common.{◌≡◌, ℕ, zero, suc, ◌+◌, ◌<◌, Bool, true, false, inl, inr, List, [], ◌∷◌, ◌++◌, length, set, drop, get_or, refl, sym, ap, subst, ◌∙◌, arith, Option, Some, None, slice_get, length-append, ◌≤◌}
+use Rattle.std.specs.Prelude.{◌-◌, IsSome, is_some, Result, Ok, Err, is_ok, MatchResult}
+use Rattle.tp_shared.proofs.Lower.{AllByRecursion, enumerate_from, cases_eq, append-nil, drop_at, slice_get_within, cons≢nil, slice_get-set_same, slice_get-set_other, Sound, item_of, Entry, Turns, Received, NodeState, t414, Begin, happens, IsNodeOfBytes, NodeContents, has_recorded_in, Refusal, BookValue, agreed, next_in_book, world_of, FitsRoom, one_act, Opened, IsNodeOf, entries_among, IsOpenedIn, sent_in, turn_received, opened_behind}
 use Rattle.tp_shared.specs.Agreement.{Agreement, answered_with, at_rest, takes_opened}
 use Rattle.tp_shared.specs.BookActs.{Grown, NodeActed, HostActed}
 use Rattle.tp_shared.specs.Gains.{HoldNoted}

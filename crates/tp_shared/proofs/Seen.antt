@@ -1,10 +1,6 @@
 -- Holds of the book's lock in which the book is seen as it is found and as it is left.
 use Rattle.std.proofs.Common.{◌≡◌, ◌<◌, ℕ, List, [], ◌∷◌, ◌++◌, ap, subst, sym, ◌∙◌, append_assoc}
-use Rattle.std.specs.List.{AllByRecursion, enumerate_from}
-use Rattle.tp_model.specs.declared.entry.Entry.{Entry}
-use Rattle.tp_model.specs.NodeState.{NodeState}
-use Rattle.tp_model.specs.Network.{Network}
-use Rattle.tp_book.specs.Book.{BookValue}
+use Rattle.tp_shared.proofs.Lower.{AllByRecursion, enumerate_from, Entry, NodeState, Network, BookValue}
 use Rattle.tp_shared.specs.Gains.{Gained, HoldNoted}
 use Rattle.tp_shared.specs.Holds.{WasHeld, IsBookOf, in_hand}
 use Rattle.tp_shared.specs.Seals.{IsTied, Stage}

@@ -1,11 +1,6 @@
 -- Seals once no node's pages are kept any more.
 use Rattle.std.proofs.Common.{◌≡◌, ℕ, true, false, List, set, sym, ◌∙◌, Some, slice_get}
-use Rattle.std.proofs.lemmas.Bool.{true≢false}
-use Rattle.tp_law_machine.proofs.Partial.{all_at, all_set}
-use Rattle.tp_model.specs.NodeState.{NodeState}
-use Rattle.tp_model.specs.Runs.{World, HasCut}
-use Rattle.tp_book.specs.Needs.{has_recorded_in}
-use Rattle.tp_book.specs.Book.{world_of}
+use Rattle.tp_shared.proofs.Lower.{true≢false, all_at, all_set, NodeState, World, HasCut, has_recorded_in, world_of}
 use Rattle.tp_shared.specs.Seals.{Stage}
 use Rattle.tp_shared.specs.Told.{ToldSince, told_of}
 use Rattle.tp_shared.specs.Thawed.{HasThawed, ThawedAsTold}

@@ -1,28 +1,7 @@
 -- The acts of a turn: a node records, a token is taken, a Marker is taken. None of them is a trim, and their entries are Takes.
 use Rattle.std.proofs.Common.{◌≡◌, ℕ, zero, suc, Bool, true, false, cond, inl, inr, List, [], ◌∷◌, ◌++◌, ◌+◌, ◌*◌, length, refl, sym, subst, Option, Some, None}
-use Rattle.std.specs.Prelude.{Result, Ok, Err, length}
-use Rattle.std.specs.List.{AllByRecursion}
-use Rattle.tp_model.specs.declared.link.Token.{Token}
-use Rattle.tp_model.specs.declared.link.Token.TheVariants.{Data, Ack, Marker}
-use Rattle.tp_model.specs.declared.entry.Entry.TheVariants.{Run, Take, HostIn, Confirm, Turn}
-use Rattle.tp_model.specs.NodeState.{NodeState}
-use Rattle.tp_model.specs.Network.{Network, back}
-use Rattle.tp_model.specs.Entries.{process}
-use Rattle.tp_model.specs.Acts.{Act, Begin, Record, Journal, Close, Trim}
-use Rattle.tp_model.specs.Runs.{is_trim}
-use Rattle.tp_law_machine.proofs.Partial.{all_append}
-use Rattle.tp_book.specs.Needs.{is_asked}
-use Rattle.tp_book.specs.Book.{BookValue}
-use Rattle.tp_book.specs.Calls.{front_of}
-use Rattle.tp_book.specs.declared.refusal.Refusal.{Refusal}
-use Rattle.tp_book.specs.declared.refusal.Refusal.TheVariants.{JournalFull, StoreBroken, Memory, NothingToTake, SnapshotRunning, PortFull}
-use Rattle.tp_turn.specs.declared.left.Left.{Left}
-use Rattle.tp_turn.specs.Turns.{InOrder}
-use Rattle.tp_turn.specs.Moments.{TurnMoment, entries_among}
-use Rattle.tp_turn.specs.Fronts.{front_act, AtFront, OnLine, OnWire, OnLink}
-use Rattle.tp_turn.specs.Settled.{Records, LeavesLink, Settles, EndsAtLink}
-use Rattle.tp_turn.specs.Stages.{Breaks}
-use Rattle.tp_turn.specs.Hosted.{PortAtFront, OnPortLine, OnPortWire, OnPort, LeavesPorts, StopsAtPort, HostTurns}
+use Rattle.std.specs.Prelude.{Result, Ok, Err}
+use Rattle.tp_shared.proofs.Lower.{AllByRecursion, Token, Data, Ack, Marker, Run, Take, HostIn, Confirm, Turn, NodeState, Network, back, process, Act, Begin, Record, Journal, Close, Trim, is_trim, all_append, is_asked, BookValue, front_of, Refusal, JournalFull, StoreBroken, Memory, NothingToTake, SnapshotRunning, PortFull, Left, InOrder, TurnMoment, entries_among, front_act, AtFront, OnLine, OnWire, OnLink, Records, LeavesLink, Settles, EndsAtLink, Breaks, PortAtFront, OnPortLine, OnPortWire, OnPort, LeavesPorts, StopsAtPort, HostTurns}
 use Rattle.tp_shared.specs.Entries.{AreTakes}
 
 abbrev pub IsTurnAct : Act → Type 0

@@ -1,22 +1,6 @@
 -- What nodes received for open turns stays at the front of their lines, if only entries of others are made.
 use Rattle.std.proofs.Common.{◌≡◌, ◌≢◌, ℕ, List, length, refl, sym, subst, ◌∙◌, Option, Some, None, slice_get}
-use Rattle.std.specs.List.{AllByRecursion}
-use Rattle.tp_model.specs.declared.entry.Entry.{Entry}
-use Rattle.tp_model.specs.declared.form.Form.TheVariants.{Turns}
-use Rattle.tp_model.specs.declared.link.Received.{Received}
-use Rattle.tp_model.specs.NodeState.{NodeState}
-use Rattle.tp_model.specs.Node.{t414}
-use Rattle.tp_model.specs.Network.{Network}
-use Rattle.tp_model.specs.Entries.{process}
-use Rattle.tp_model.specs.Order.{after}
-use Rattle.tp_model.specs.Halves.{BookState}
-use Rattle.tp_model.specs.Acts.{Act, acted}
-use Rattle.tp_law_network.specs.Reserved.{IsNotOf}
-use Rattle.tp_law_machine.proofs.LinkLaws.{has_four_links}
-use Rattle.tp_law_network.proofs.Reorder.{after_shape}
-use Rattle.tp_book.specs.Book.{BookValue, agreed, nodes_in, world_of}
-use Rattle.tp_turn.specs.Moments.{entries_among}
-use Rattle.tp_turn.proofs.Ahead.{not_of, received_stays}
+use Rattle.tp_shared.proofs.Lower.{AllByRecursion, Entry, Turns, Received, NodeState, t414, Network, process, after, BookState, Act, acted, IsNotOf, has_four_links, after_shape, BookValue, agreed, nodes_in, world_of, entries_among, not_of, received_stays}
 use Rattle.tp_shared.specs.Seals.{AreWaiting}
 
 many_after : (s : Network NodeState) (es : List Entry) (given : Option (Network NodeState)) → after t414 s es ≡ given → (i : ℕ) (n : NodeState) → slice_get (nodes_in given) i ≡ Some n → length (nodes_in given) ≡ length s.nodes

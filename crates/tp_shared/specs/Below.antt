@@ -1,7 +1,6 @@
 -- Slips with numbers below a bound.
 use Rattle.std.specs.Prelude.{◌<◌, ℕ, List}
-use Rattle.std.specs.List.{AllByRecursion}
-use Rattle.tp_model.specs.declared.entry.Entry.{Entry}
+use Rattle.tp_shared.specs.Lower.{AllByRecursion, Entry}
 
 -- the numbers of slips are below this number
 abbrev pub AreBelow : ℕ → List (ℕ × Entry) → Type 0

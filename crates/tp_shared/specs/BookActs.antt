@@ -1,14 +1,6 @@
 -- What is done to a book while its lock is held.
 use Rattle.std.specs.Prelude.{◌≡◌, ◌≢◌, ℕ, false, List, ◌++◌, length, set, get_or, Some, None}
-use Rattle.std.specs.List.{AllByRecursion, range_with_len}
-use Rattle.tp_model.specs.declared.entry.Entry.{Entry}
-use Rattle.tp_model.specs.Node.{t414}
-use Rattle.tp_model.specs.Acts.{Act, acted}
-use Rattle.tp_model.specs.Entries.{process}
-use Rattle.tp_model.specs.Runs.{is_trim}
-use Rattle.tp_book.specs.Needs.{has_recorded_in}
-use Rattle.tp_book.specs.Book.{BookValue, agreed, next_in_book, world_of}
-use Rattle.tp_turn.specs.Moments.{entries_among}
+use Rattle.tp_shared.specs.Lower.{AllByRecursion, range_with_len, Entry, t414, Act, acted, process, is_trim, has_recorded_in, BookValue, agreed, next_in_book, world_of, entries_among}
 use Rattle.tp_shared.specs.Agreement.{Agreement}
 
 -- Acts were done, none of them a trim. The book has their entries more, as `Are` says, under the numbers that come next.

@@ -1,7 +1,6 @@
 -- Books that were seen one after another: a store that was broken is broken from then on.
 use Rattle.std.specs.Prelude.{◌≡◌, Bool, true, List, [], ◌∷◌}
-use Rattle.std.specs.List.{AllByRecursion}
-use Rattle.tp_book.specs.Book.{BookValue}
+use Rattle.tp_shared.specs.Lower.{AllByRecursion, BookValue}
 
 -- After a broken book all are broken.
 abbrev pub StayBroken : List BookValue → Type 0

@@ -1,17 +1,6 @@
 -- The processes of entries.
 use Rattle.std.specs.Prelude.{◌≡◌, ◌⊎◌, ℕ, List, [], length, Result, Ok, Err}
-use Rattle.std.specs.List.{AllByRecursion}
-use Rattle.tp_model.specs.declared.entry.Entry.{Entry}
-use Rattle.tp_model.specs.declared.entry.Entry.TheVariants.{Run, Take, HostIn, Confirm, Turn}
-use Rattle.tp_model.specs.declared.link.Received.{Received}
-use Rattle.tp_model.specs.NodeState.{NodeState}
-use Rattle.tp_model.specs.Network.{Network}
-use Rattle.tp_model.specs.Entries.{process}
-use Rattle.tp_law_network.specs.Reserved.{turn_entries}
-use Rattle.tp_book.specs.declared.refusal.Refusal.{Refusal}
-use Rattle.tp_book.specs.declared.refusal.Refusal.TheVariants.{JournalFull, StoreBroken, Memory, NothingToTake, SnapshotRunning, PortFull}
-use Rattle.tp_turn.specs.declared.opened.Opened.{Opened}
-use Rattle.tp_turn.specs.declared.opened.Opened.TheVariants.{Apart, Whole}
+use Rattle.tp_shared.specs.Lower.{AllByRecursion, Entry, Run, Take, HostIn, Confirm, Turn, Received, NodeState, Network, process, turn_entries, Refusal, JournalFull, StoreBroken, Memory, NothingToTake, SnapshotRunning, PortFull, Opened, Apart, Whole}
 
 -- a Take of this process
 abbrev pub IsTakeBy : Network NodeState → ℕ → Entry → Type 0

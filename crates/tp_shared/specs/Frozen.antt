@@ -1,10 +1,6 @@
 -- The nodes with pages that are kept as they were when the node recorded.
 use Rattle.std.specs.Prelude.{◌≡◌, ℕ, ◌*◌, Bool, false, not, nat_lt, List, [], ◌∷◌, length, get_or, Option, Some, None, slice_get}
-use Rattle.std.specs.List.{list_all}
-use Rattle.tp_model.specs.declared.limits.TheConstants.{PAGE_BYTES}
-use Rattle.tp_model.specs.NodeState.{NodeState}
-use Rattle.tp_model.specs.Snapshot.{MarkedNetwork}
-use Rattle.tp_model.specs.FrozenAs.{IsFrozenAs}
+use Rattle.tp_shared.specs.Lower.{list_all, PAGE_BYTES, NodeState, MarkedNetwork, IsFrozenAs}
 use Rattle.tp_shared.specs.declared.seal.NodeSeal.{NodeSeal}
 
 -- what is beside each seal

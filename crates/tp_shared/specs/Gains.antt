@@ -1,7 +1,6 @@
 -- What a seat gains.
 use Rattle.std.specs.Prelude.{◌≡◌, ◌<◌, ℕ, ◌+◌, List, ◌++◌, length}
-use Rattle.std.specs.List.{AllByRecursion, enumerate_from}
-use Rattle.tp_model.specs.declared.entry.Entry.{Entry}
+use Rattle.tp_shared.specs.Lower.{AllByRecursion, enumerate_from, Entry}
 use Rattle.tp_shared.specs.Seals.{Stage}
 
 -- What a hold of the book's lock did: entries as `Are` says were journalled, and the seat has exactly their slips. All slips that it had

@@ -1,10 +1,6 @@
 -- What is seen in a hold of the book's lock, and what a seat gains in it.
 use Rattle.std.specs.Prelude.{◌≡◌, ◌<◌, ℕ, List, [], ◌∷◌, ◌++◌, length}
-use Rattle.std.specs.List.{AllByRecursion, enumerate_from}
-use Rattle.tp_model.specs.declared.entry.Entry.{Entry}
-use Rattle.tp_model.specs.NodeState.{NodeState}
-use Rattle.tp_model.specs.Network.{Network}
-use Rattle.tp_book.specs.Book.{BookValue, next_in_book}
+use Rattle.tp_shared.specs.Lower.{AllByRecursion, enumerate_from, Entry, NodeState, Network, BookValue, next_in_book}
 
 -- a book of the network
 pub record IsBookOf (start : Network NodeState) (b : BookValue) : Type 0 where

@@ -1,3 +1,4 @@
+pub mod Lower
 pub mod Agreement
 pub mod Entries
 pub mod BookActs

@@ -1,8 +1,6 @@
 -- What is picked for parts that are put under locks.
 use Rattle.std.specs.Prelude.{◌≡◌, ℕ, length, Option}
-use Rattle.tp_ready.specs.Seen.{MarkName}
-use Rattle.tp_model.specs.NodeState.{NodeState}
-use Rattle.tp_model.specs.Network.{Network}
+use Rattle.tp_shared.specs.Lower.{MarkName, NodeState, Network}
 use Rattle.tp_shared.specs.Parted.{name_of, PartsValue}
 
 -- What is picked is that of the parts:

@@ -1,12 +1,6 @@
 -- What a turn of a node does to a seat.
 use Rattle.std.specs.Prelude.{◌≡◌, ◌≤◌, ◌⊎◌, ℕ, List, length}
-use Rattle.tp_model.specs.declared.entry.Entry.{Entry}
-use Rattle.tp_model.specs.declared.link.Received.{Received}
-use Rattle.tp_model.specs.NodeState.{NodeState}
-use Rattle.tp_model.specs.Network.{Network}
-use Rattle.tp_model.specs.Turn.{by_link}
-use Rattle.tp_law_network.specs.Reserved.{turn_entries}
-use Rattle.tp_book.specs.Acts.{run_entries}
+use Rattle.tp_shared.specs.Lower.{Entry, Received, NodeState, Network, by_link, turn_entries, run_entries}
 use Rattle.tp_shared.specs.Entries.{CountedTakes}
 use Rattle.tp_shared.specs.Gains.{Gained}
 use Rattle.tp_shared.specs.declared.node_turn.NodeTurn.{NodeTurn}

@@ -1,11 +1,6 @@
 -- Parts that belong together.
 use Rattle.std.specs.Prelude.{◌≡◌, ℕ, zero, suc, List, [], ◌∷◌, map, length, None}
-use Rattle.tp_ready.specs.Seen.{MarkName}
-use Rattle.tp_model.specs.declared.entry.Entry.{Entry}
-use Rattle.tp_node.specs.NodeContents.{NodeContents}
-use Rattle.tp_book.specs.declared.state.NetState.{NetState}
-use Rattle.tp_book.specs.Book.{BookValue}
-use Rattle.tp_book.specs.Opened.{IsWellOpen, now_of, opened_book}
+use Rattle.tp_shared.specs.Lower.{MarkName, Entry, NodeContents, NetState, BookValue, IsWellOpen, now_of, opened_book}
 use Rattle.tp_shared.specs.Hands.{AreOfRow}
 use Rattle.tp_shared.specs.Seals.{Sealed, IsTied}
 use Rattle.tp_shared.specs.declared.dealt.Dealt.{Dealt}

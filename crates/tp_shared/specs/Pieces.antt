@@ -1,10 +1,6 @@
 -- What is copied of a node that recorded, while a snapshot runs.
 use Rattle.std.specs.Prelude.{◌≡◌, ◌<◌, ℕ, ◌+◌, ◌*◌, List, [], length, get_or, take, drop}
-use Rattle.tp_model.specs.declared.limits.TheConstants.{PAGE_BYTES}
-use Rattle.tp_model.specs.NodeState.{NodeState}
-use Rattle.tp_model.specs.Image.{image_head}
-use Rattle.tp_model.specs.Snapshot.{MarkedNetwork}
-use Rattle.tp_model.specs.FrozenAs.{IsFrozenAs}
+use Rattle.tp_shared.specs.Lower.{PAGE_BYTES, NodeState, image_head, MarkedNetwork, IsFrozenAs}
 
 -- The image of the node, as it recorded in the snapshot that runs, begins with `bytes`.
 pub record IsFrozenHead (net : MarkedNetwork NodeState) (i : ℕ) (bytes : List ℕ) : Type 0 where

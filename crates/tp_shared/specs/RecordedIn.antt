@@ -1,12 +1,6 @@
 -- How a node recorded, in a book that was seen under its lock.
 use Rattle.std.specs.Prelude.{◌≡◌, ℕ, Bool, List, [], ◌∷◌}
-use Rattle.tp_model.specs.NodeState.{NodeState}
-use Rattle.tp_model.specs.Network.{Network}
-use Rattle.tp_node.specs.NodeContents.{NodeContents}
-use Rattle.tp_book.specs.Needs.{is_asked}
-use Rattle.tp_book.specs.Book.{BookValue}
-use Rattle.tp_turn.specs.Moments.{Done, IsNodeOf, moment_of}
-use Rattle.tp_turn.specs.Settled.{Records}
+use Rattle.tp_shared.specs.Lower.{NodeState, Network, NodeContents, is_asked, BookValue, Done, IsNodeOf, moment_of, Records}
 use Rattle.tp_shared.specs.Holds.{IsBookOf}
 
 -- The book was seen as it was found and as it was left. The node recorded exactly if it was asked to in the book that was found, which had

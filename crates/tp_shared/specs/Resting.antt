@@ -1,13 +1,6 @@
 -- What is left to do in a network.
 use Rattle.std.specs.Prelude.{◌≡◌, ℕ, Bool, true, false, ◌&&◌, if◌then◌else◌, List, [], ◌∷◌, Some, slice_get}
-use Rattle.std.specs.List.{list_all}
-use Rattle.tp_model.specs.declared.link.Token.{Token}
-use Rattle.tp_model.specs.NodeState.{NodeState}
-use Rattle.tp_model.specs.Network.{Network}
-use Rattle.tp_node.specs.Rest.{rest_of}
-use Rattle.tp_node.specs.declared.rest.Rest.{Rest}
-use Rattle.tp_node.specs.declared.rest.Rest.TheVariants.{Halted, Quiet, Busy}
-use Rattle.tp_book.specs.Book.{BookValue, world_of}
+use Rattle.tp_shared.specs.Lower.{list_all, Token, NodeState, Network, rest_of, Rest, Halted, Quiet, Busy, BookValue, world_of}
 
 abbrev pub is_halted : Rest → Bool
 is_halted Halted = true

@@ -1,18 +1,6 @@
 -- What the book's lock holds beside the book, and what a node's place shows.
 use Rattle.std.specs.Prelude.{◌≡◌, ℕ, ◌+◌, Bool, true, List, length, get_or, Option, Some, None, IsSome, is_some, slice_get}
-use Rattle.tp_law_network.specs.Reserved.{IsReceived}
-use Rattle.tp_law_machine.specs.NodeOfBytes.{IsNodeOfBytes}
-use Rattle.tp_model.specs.declared.entry.Entry.{Entry}
-use Rattle.tp_model.specs.declared.form.Form.TheVariants.{Turns}
-use Rattle.tp_model.specs.declared.link.Received.{Received}
-use Rattle.tp_model.specs.declared.link.Token.{Token}
-use Rattle.tp_model.specs.NodeState.{NodeState}
-use Rattle.tp_model.specs.Node.{t414}
-use Rattle.tp_model.specs.Network.{steps}
-use Rattle.tp_model.specs.Turn.{took_all}
-use Rattle.tp_book.specs.Needs.{has_recorded_in}
-use Rattle.tp_book.specs.Book.{BookValue, agreed, next_in_book, world_of}
-use Rattle.tp_turn.specs.Opened.{tokens_in}
+use Rattle.tp_shared.specs.Lower.{IsReceived, IsNodeOfBytes, Entry, Turns, Received, Token, NodeState, t414, steps, took_all, has_recorded_in, BookValue, agreed, next_in_book, world_of, tokens_in}
 use Rattle.tp_shared.specs.Agreement.{Agreement, at_rest}
 use Rattle.tp_shared.specs.declared.place.Place.{Place}
 use Rattle.tp_shared.specs.declared.seal.NodeSeal.{NodeSeal}

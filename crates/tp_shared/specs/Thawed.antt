@@ -1,11 +1,6 @@
 -- Once no node's pages are kept any more.
 use Rattle.std.specs.Prelude.{◌≡◌, true, false, List}
-use Rattle.std.specs.List.{AllByRecursion}
-use Rattle.tp_model.specs.NodeState.{NodeState}
-use Rattle.tp_model.specs.Node.{t414}
-use Rattle.tp_model.specs.WholeCut.{WholeCut}
-use Rattle.tp_model.specs.Runs.{HasCut}
-use Rattle.tp_law_network.specs.Invariant.{CutInvariant}
+use Rattle.tp_shared.specs.Lower.{AllByRecursion, NodeState, t414, WholeCut, HasCut, CutInvariant}
 use Rattle.tp_shared.specs.declared.seal.NodeSeal.{NodeSeal}
 use Rattle.tp_shared.specs.declared.told.Told.{Told}
 

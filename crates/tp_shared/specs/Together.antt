@@ -4,13 +4,7 @@
 -- - the flusher, which has the key of what it was told;
 -- - the journal on the device.
 use Rattle.std.specs.Prelude.{◌≡◌, ◌≤◌, ◌+◌, ◌-◌, ◌*◌, ℕ, List, length, Option, None}
-use Rattle.tp_token.specs.declared.roll.Roll.{Roll}
-use Rattle.tp_token.specs.declared.twin.Seal.{Seal}
-use Rattle.tp_model.specs.declared.entry.Entry.{Entry}
-use Rattle.tp_model.specs.NodeState.{NodeState}
-use Rattle.tp_model.specs.Network.{Network}
-use Rattle.tp_model.specs.Runs.{World}
-use Rattle.tp_book.specs.Book.{BookValue}
+use Rattle.tp_shared.specs.Lower.{Roll, Seal, Entry, NodeState, Network, World, BookValue}
 use Rattle.tp_shared.specs.BrokenSeen.{BrokenSince}
 use Rattle.tp_shared.specs.Frozen.{frozen_in}
 use Rattle.tp_shared.specs.Positions.{IsNumberedFrom}

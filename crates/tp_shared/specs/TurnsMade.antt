@@ -1,20 +1,6 @@
 -- How turns went, in books that were seen under their lock.
 use Rattle.std.specs.Prelude.{◌≡◌, ℕ, List, Some, Result, Ok, Err}
-use Rattle.tp_model.specs.declared.link.Token.{Token}
-use Rattle.tp_model.specs.NodeState.{NodeState}
-use Rattle.tp_model.specs.Network.{Network, steps}
-use Rattle.tp_model.specs.Node.{t414}
-use Rattle.tp_model.specs.NodeWrites.{node_ranges, kept_behind_steps}
-use Rattle.tp_model.specs.SharedPages.{LacksFrames}
-use Rattle.tp_node.specs.NodeContents.{NodeContents, memory_kept}
-use Rattle.tp_node.specs.RunEnd.{IsWhy}
-use Rattle.tp_book.specs.declared.refusal.Refusal.{Refusal}
-use Rattle.tp_book.specs.Book.{BookValue}
-use Rattle.tp_book.specs.Calls.{without_run}
-use Rattle.tp_turn.specs.Hosted.{HostDone, HostTurns}
-use Rattle.tp_turn.specs.Moments.{moment_of, IsNodeOf, Added}
-use Rattle.tp_turn.specs.declared.opened.Opened.{Opened}
-use Rattle.tp_turn.specs.Opened.{OpensIn, opened_acts, taken_in}
+use Rattle.tp_shared.specs.Lower.{Token, NodeState, Network, steps, t414, node_ranges, kept_behind_steps, LacksFrames, NodeContents, memory_kept, IsWhy, Refusal, BookValue, without_run, HostDone, HostTurns, moment_of, IsNodeOf, Added, Opened, OpensIn, opened_acts, taken_in}
 use Rattle.tp_shared.specs.Holds.{WasHeld, InHand}
 use Rattle.tp_shared.specs.declared.node_turn.NodeTurn.{NodeTurn}
 

@@ -1,7 +1,7 @@
 //! The nodes under one lock, and their turns.
 
 ghost use Rattle.std.specs.Prelude.{◌≡◌, ◌<◌, ◌≤◌, ◌%◌, length, IfErr, MatchResult};
-ghost use Rattle.tp_model.specs.declared.limits.TheConstants.{MAX_STEPS};
+ghost use Rattle.tp_shared.specs.Lower.{MAX_STEPS, opened_entries, sent_in, turn_received};
 ghost use Rattle.tp_shared.specs.declared.cells.TheConstants.{CELLS};
 ghost use Rattle.tp_shared.specs.Cells.{AreOfCell};
 ghost use Rattle.tp_shared.specs.Entries.{IsTurnRefusal, OpenedEntries, TookAlone};
@@ -11,7 +11,6 @@ ghost use Rattle.tp_shared.specs.Seals.{KeyShows, ShowsOpen, ShowsRun};
 ghost use Rattle.tp_shared.specs.NodeTurned.{NodeTurned};
 ghost use Rattle.tp_shared.specs.RecordedIn.{RecordedIn};
 ghost use Rattle.tp_shared.specs.TurnsMade.{TurnBrokenOff, TurnCommitted, TurnOpened, TurnMade};
-ghost use Rattle.tp_turn.specs.Opened.{opened_entries, sent_in, turn_received};
 
 use crate::cells::CELLS;
 use crate::gate::{COMMITTED, Gate, NODE_LOCKED, RUN_DONE};

@@ -1,8 +1,7 @@
 //! Copies of the lines and ports in a cut.
 
 ghost use Rattle.std.specs.Prelude.{◌≡◌, ◌<◌, [], length, map, set, IfOk};
-ghost use Rattle.tp_model.specs.Network.{on_line};
-ghost use Rattle.tp_book.specs.PortParts.{port_made};
+ghost use Rattle.tp_shared.specs.Lower.{on_line, port_made};
 
 use std::alloc::{AllocError, Global};
 use tp_book::PortParts;

@@ -1,14 +1,10 @@
 //! What is done for a node while the book's lock is held.
 
 ghost use Rattle.std.specs.Prelude.{◌≡◌, [], Some, None, true, false, slice_get, IfErr};
-ghost use Rattle.tp_book.specs.Needs.{has_recorded_in};
+ghost use Rattle.tp_shared.specs.Lower.{has_recorded_in, without_run, Added, Done, IsNodeOf, moment_of, HasTurnedBy, IsOpenedIn, OpensIn, opened_acts, opened_entries, Records};
 ghost use Rattle.tp_shared.specs.Agreement.{answered_with, at_rest};
 ghost use Rattle.tp_shared.specs.BookActs.{NodeActed};
 ghost use Rattle.tp_shared.specs.Entries.{IsTurnRefusal, OpenedEntries};
-ghost use Rattle.tp_book.specs.Calls.{without_run};
-ghost use Rattle.tp_turn.specs.Moments.{Added, Done, IsNodeOf, moment_of};
-ghost use Rattle.tp_turn.specs.Opened.{HasTurnedBy, IsOpenedIn, OpensIn, opened_acts, opened_entries};
-ghost use Rattle.tp_turn.specs.Settled.{Records};
 
 use tp_book::{Book, Refusal};
 use tp_node::{Node, Ran};

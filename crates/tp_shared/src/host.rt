@@ -1,16 +1,10 @@
 //! What the host does while the book's lock is held.
 
 ghost use Rattle.std.specs.Prelude.{◌≡◌, ◌<◌, ◌≤◌, ◌+◌, length, map, IfOk, IfErr, IsOk, OnErr};
-ghost use Rattle.tp_book.specs.Acts.{confirm_entries};
-ghost use Rattle.tp_book.specs.Book.{next_in_book};
-ghost use Rattle.tp_book.specs.Host.{after_inputs, input_refusal, port_in, after_confirm, confirm_refusal};
-ghost use Rattle.tp_book.specs.Receipts.{confirm_receipt, input_receipt};
-ghost use Rattle.tp_book.specs.Refusals.{IsAnswer};
-ghost use Rattle.tp_model.specs.declared.entry.Entry.TheVariants.{HostIn};
+ghost use Rattle.tp_shared.specs.Lower.{confirm_entries, next_in_book, after_inputs, input_refusal, port_in, after_confirm, confirm_refusal, confirm_receipt, input_receipt, IsAnswer, HostIn, HostDone, HostTurns};
 ghost use Rattle.tp_shared.specs.Entries.{IsTurnRefusal, TakesOf};
 ghost use Rattle.tp_shared.specs.Gains.{HoldNoted};
 ghost use Rattle.tp_shared.specs.Holds.{IsBookOf};
-ghost use Rattle.tp_turn.specs.Hosted.{HostDone, HostTurns};
 
 use crate::locked::Locked;
 use crate::naming::Naming;

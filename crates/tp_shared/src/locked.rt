@@ -1,8 +1,7 @@
 //! What the book's lock holds.
 
 ghost use Rattle.std.specs.Prelude.{◌≡◌, ◌<◌, ◌≤◌, ◌+◌, ◌-◌, ◌*◌, ℕ, None, [], true, length, IfErr, MatchResult};
-ghost use Rattle.tp_model.specs.declared.limits.TheConstants.{MAX_STEPS};
-ghost use Rattle.tp_book.specs.Needs.{has_recorded_in};
+ghost use Rattle.tp_shared.specs.Lower.{MAX_STEPS, has_recorded_in, without_run, Added, IsNodeOf, moment_of, OpensIn, opened_acts, opened_entries, sent_in, turn_received};
 ghost use Rattle.tp_shared.specs.Entries.{IsTurnRefusal, OpenedEntries};
 ghost use Rattle.tp_shared.specs.Frozen.{frozen_in, keeps_pages};
 ghost use Rattle.tp_shared.specs.Gains.{HoldNoted};
@@ -10,9 +9,6 @@ ghost use Rattle.tp_shared.specs.Positions.{IsNumberedFrom};
 ghost use Rattle.tp_shared.specs.Seals.{Sealed, IsTied, KeyShows, ShowsOpen, ShowsRun};
 ghost use Rattle.tp_shared.specs.Told.{told_of};
 ghost use Rattle.tp_shared.specs.Holds.{IsBookOf};
-ghost use Rattle.tp_book.specs.Calls.{without_run};
-ghost use Rattle.tp_turn.specs.Moments.{Added, IsNodeOf, moment_of};
-ghost use Rattle.tp_turn.specs.Opened.{OpensIn, opened_acts, opened_entries, sent_in, turn_received};
 
 use crate::hold::{begin, commit};
 use crate::naming::Naming;

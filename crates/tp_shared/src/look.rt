@@ -1,9 +1,7 @@
 //! Reading the state of the snapshot.
 
 ghost use Rattle.std.specs.Prelude.{◌≡◌, ◌<◌, ◌≤◌, ℕ, false, get_or, length};
-ghost use Rattle.tp_model.specs.declared.limits.TheConstants.{MAX_NODES};
-ghost use Rattle.tp_book.specs.Needs.{has_recorded_in};
-ghost use Rattle.tp_book.specs.Book.{count_of_nodes};
+ghost use Rattle.tp_shared.specs.Lower.{MAX_NODES, has_recorded_in, count_of_nodes};
 
 use crate::locked::Locked;
 use crate::naming::Naming;

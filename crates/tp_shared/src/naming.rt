@@ -1,11 +1,7 @@
 //! Which network is meant.
 
 ghost use Rattle.std.specs.Prelude.{ℕ, [], Option, None};
-ghost use Rattle.tp_ready.specs.Seen.{MarkName};
-ghost use Rattle.tp_model.specs.NodeState.{NodeState};
-ghost use Rattle.tp_model.specs.Network.{Network};
-ghost use Rattle.tp_model.specs.Runs.{World, fresh};
-ghost use Rattle.tp_model.specs.WriteOrder.{Resting};
+ghost use Rattle.tp_shared.specs.Lower.{MarkName, NodeState, Network, World, fresh, Resting};
 
 use std::marker::Brand;
 

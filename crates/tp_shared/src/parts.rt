@@ -1,12 +1,9 @@
 //! What is to be put under locks.
 
 ghost use Rattle.std.specs.Prelude.{◌≡◌, ◌<◌, ℕ, [], None, Some, false, length, slice_get, IfOk};
-ghost use Rattle.tp_law_machine.specs.NodeOfBytes.{IsNodeOfBytes};
-ghost use Rattle.tp_book.specs.Book.{next_in_book};
-ghost use Rattle.tp_node.specs.NodeContents.{NodeContents};
+ghost use Rattle.tp_shared.specs.Lower.{IsNodeOfBytes, next_in_book, NodeContents, IsNodeOf};
 ghost use Rattle.tp_shared.specs.Agreement.{at_rest};
 ghost use Rattle.tp_shared.specs.Parted.{AreOfOpened, IsDealt};
-ghost use Rattle.tp_turn.specs.Moments.{IsNodeOf};
 
 use crate::dealt::Dealt;
 use crate::place::Place;

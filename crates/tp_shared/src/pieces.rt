@@ -1,10 +1,7 @@
 //! Pieces of the image of a node that recorded, while a snapshot runs.
 
 ghost use Rattle.std.specs.Prelude.{◌≡◌, ◌<◌, ◌≤◌, ◌+◌, ◌*◌, ◌&&◌, ℕ, Some, None, IfSome, IsSome, true, false, is_some, length, nat_lt, set, slice_get};
-ghost use Rattle.tp_model.specs.declared.limits.TheConstants.{PAGE_BYTES};
-ghost use Rattle.tp_model.specs.FrozenAs.{IsFrozenAs};
-ghost use Rattle.tp_model.specs.NodeState.{NodeState};
-ghost use Rattle.tp_book.specs.Book.{world_of};
+ghost use Rattle.tp_shared.specs.Lower.{PAGE_BYTES, IsFrozenAs, NodeState, world_of};
 ghost use Rattle.tp_shared.specs.Agreement.{at_rest};
 ghost use Rattle.tp_shared.specs.Frozen.{keeps_pages};
 ghost use Rattle.tp_shared.specs.Pieces.{AreFrozenPages, ArePagesOf, IsFrozenHead};

@@ -1,12 +1,10 @@
 //! A node records under the book's lock, while nothing runs.
 
 ghost use Rattle.std.specs.Prelude.{◌≡◌, ◌<◌, length};
+ghost use Rattle.tp_shared.specs.Lower.{is_asked, Done, IsNodeOf, moment_of, Records};
 ghost use Rattle.tp_shared.specs.RecordedIn.{RecordedIn};
 ghost use Rattle.tp_shared.specs.Seals.{KeyShows};
 ghost use Rattle.tp_shared.specs.Holds.{IsBookOf};
-ghost use Rattle.tp_book.specs.Needs.{is_asked};
-ghost use Rattle.tp_turn.specs.Moments.{Done, IsNodeOf, moment_of};
-ghost use Rattle.tp_turn.specs.Settled.{Records};
 
 use crate::hold::record;
 use crate::locked::Locked;

@@ -1,8 +1,7 @@
 //! What is left to do in the network as it is.
 
 ghost use Rattle.std.specs.Prelude.{◌≡◌, ◌<◌, ◌%◌, if◌then◌else◌, length};
-ghost use Rattle.tp_book.specs.Book.{world_of};
-ghost use Rattle.tp_model.specs.Markers.{plain_network};
+ghost use Rattle.tp_shared.specs.Lower.{world_of, plain_network};
 ghost use Rattle.tp_shared.specs.Resting.{IsRestAt, rest_in};
 ghost use Rattle.tp_shared.specs.Rows.{IsInRow};
 ghost use Rattle.tp_shared.specs.declared.cells.TheConstants.{CELLS};

@@ -1,13 +1,7 @@
 //! Runs of nodes, while the book's lock isn't held.
 
 ghost use Rattle.std.specs.Prelude.{◌≡◌, ◌≤◌, Some};
-ghost use Rattle.tp_law_machine.specs.NodeOfBytes.{IsNodeOfBytes};
-ghost use Rattle.tp_model.specs.Network.{steps};
-ghost use Rattle.tp_model.specs.Node.{t414};
-ghost use Rattle.tp_model.specs.NodeWrites.{node_ranges, kept_behind_steps};
-ghost use Rattle.tp_model.specs.SharedPages.{LacksFrames};
-ghost use Rattle.tp_node.specs.NodeContents.{memory_kept};
-ghost use Rattle.tp_node.specs.RunEnd.{IsWhy};
+ghost use Rattle.tp_shared.specs.Lower.{IsNodeOfBytes, steps, t414, node_ranges, kept_behind_steps, LacksFrames, memory_kept, IsWhy};
 ghost use Rattle.tp_shared.specs.Seals.{IsInTurn};
 
 use crate::place::Place;

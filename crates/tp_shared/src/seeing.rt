@@ -1,13 +1,12 @@
 //! Turns' holds of the book's lock. The book is seen at their beginning and at their end.
 
 ghost use Rattle.std.specs.Prelude.{◌≡◌, ◌<◌, ◌≤◌, length, IfErr, MatchResult};
-ghost use Rattle.tp_model.specs.declared.limits.TheConstants.{MAX_STEPS};
+ghost use Rattle.tp_shared.specs.Lower.{MAX_STEPS, opened_entries, sent_in, turn_received};
 ghost use Rattle.tp_shared.specs.Entries.{IsTurnRefusal, OpenedEntries, TakesOf};
 ghost use Rattle.tp_shared.specs.Gains.{Gained};
 ghost use Rattle.tp_shared.specs.Holds.{in_hand};
 ghost use Rattle.tp_shared.specs.Seals.{KeyShows, ShowsOpen, ShowsRun};
 ghost use Rattle.tp_shared.specs.TurnsMade.{HostTurnMade, TurnCommitted, TurnOpened};
-ghost use Rattle.tp_turn.specs.Opened.{opened_entries, sent_in, turn_received};
 
 use crate::locked::Locked;
 use crate::naming::Naming;

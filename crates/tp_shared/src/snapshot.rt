@@ -1,13 +1,7 @@
 //! What else is done while the book's lock is held: a snapshot begins, lines are closed, and the store breaks.
 
 ghost use Rattle.std.specs.Prelude.{◌≡◌, Some, true, IfOk, OnErr};
-ghost use Rattle.tp_model.specs.Acts.{Begin, happens};
-ghost use Rattle.tp_model.specs.Node.{t414};
-ghost use Rattle.tp_book.specs.Book.{world_of};
-ghost use Rattle.tp_book.specs.Marked.{after_begin, begin_refusal};
-ghost use Rattle.tp_book.specs.Refusals.{IsAnswer};
-ghost use Rattle.tp_turn.specs.Hosted.{HostDone};
-ghost use Rattle.tp_turn.specs.Over.{ClosesAll};
+ghost use Rattle.tp_shared.specs.Lower.{Begin, happens, t414, world_of, after_begin, begin_refusal, IsAnswer, HostDone, ClosesAll};
 
 use crate::locked::Locked;
 use crate::naming::Naming;
@@ -30,8 +24,8 @@ impl<J: Naming> Locked<J> {
         Ok(())
     }
 
-    /// Takes each Marker off its line, also from behind other tokens, if its receiver has recorded. So a snapshot in which all have
-    /// recorded has a whole cut, whatever is on the lines.
+    /// Takes each Marker off its line, even if other tokens come before it, if its receiver has recorded. So a snapshot in which all have recorded
+    /// has a whole cut, whatever is on the lines.
     pub fn close_all(&mut self)
         ensures done { HostDone ClosesAll self.old.book self.new.book }
         ensures all { self.new.all ≡ self.old.all }

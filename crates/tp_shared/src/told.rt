@@ -1,11 +1,7 @@
 //! What the flusher is told of the book.
 
 ghost use Rattle.std.specs.Prelude.{◌≡◌, ℕ, Bool, List, [], true};
-ghost use Rattle.std.specs.Borrow.{ftrue};
-ghost use Rattle.tp_model.specs.NodeState.{NodeState};
-ghost use Rattle.tp_model.specs.Snapshot.{MarkedNetwork};
-ghost use Rattle.tp_model.specs.declared.entry.Entry.{Entry};
-ghost use Rattle.tp_model.specs.declared.form.Form.{Form};
+ghost use Rattle.tp_shared.specs.Lower.{ftrue, NodeState, MarkedNetwork, Entry, Form};
 
 use crate::locked::Locked;
 use crate::naming::Naming;

@@ -8,7 +8,7 @@ tpnet 2>err
 empty err
 tpnet fly 2>err
 empty err
-tpnet try a.img 2>err
+tpnet try a.img --steps four 2>err
 empty err
 tpnet try --turns 4 2>err
 empty err

@@ -12,7 +12,7 @@ use std::os::unix::fs::FileExt;
 use std::sync::Wait;
 use std::thread::Threads;
 use std::{fs, io};
-use tp_program::answer_locking;
+use tp_program::{FileDevices, answer_over};
 use tp_stream_files::Plain;
 
 /// A command as it was typed: its words, the program's name first, and the files that its streams are redirected to.
@@ -128,9 +128,10 @@ fn carry_out<
     };
     let (other, mut steps) = (stage.holding.other(rt, &stage.rival), stage.looks.steps());
     let mut watcher = stage.watched.watcher(rt);
-    let status = answer_locking(
+    let mut devices = FileDevices::new(files, other);
+    let status = answer_over(
         files,
-        other,
+        &mut devices,
         &mut watcher,
         words,
         &mut feed,

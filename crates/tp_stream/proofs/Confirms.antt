@@ -1,14 +1,8 @@
--- Why a confirmation is refused though it has room.
+-- Why the book may refuse a confirm for which it has room.
 use Rattle.std.proofs.Common.{◌≡◌, ◌≤◌, ℕ, Bool, true, false, Some, None, Result, Err, sym, subst}
-use Rattle.std.proofs.lemmas.Bool.{le-ltb, true≢false}
 use Rattle.std.specs.Prelude.{if◌then◌else◌, nat_le, nat_lt}
-use Rattle.tp_book.specs.Book.{BookValue}
-use Rattle.tp_book.specs.Host.{port_in, shown_upto_of}
-use Rattle.tp_book.specs.Refusals.{is_journal_full}
-use Rattle.tp_work.specs.Answers.{RefusesFor}
-use Rattle.tp_work.specs.Outputs.{confirm_fault}
-use Rattle.tp_work.specs.declared.host_fault.ConfirmFault.{ConfirmFault}
-use Rattle.tp_work.specs.declared.host_fault.ConfirmFault.TheVariants.{NotShown, JournalFull, StoreBroken, Memory}
+use Rattle.tp_stream.proofs.Lower.{le-ltb, true≢false, BookValue, port_in, shown_upto_of, is_journal_full, RefusesFor, confirm_fault, ConfirmFault, NotShown, JournalFull, StoreBroken}
+use Rattle.tp_work.specs.declared.host_fault.ConfirmFault.TheVariants.{Memory}
 use Rattle.tp_stream.specs.Outcomes.{ConfirmsOtherwise}
 
 abbrev unconfirmed : (A : Type 0) → ConfirmFault → Result A ConfirmFault

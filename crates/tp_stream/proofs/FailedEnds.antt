@@ -1,16 +1,14 @@
--- Which end of a stream a fault names.
-use Rattle.std.proofs.Common.{◌≡◌, ℕ, ◌<◌, zero, suc, Bool, true, List, [], ◌∷◌, length, set, sym, ap, ◌∙◌, arith}
-use Rattle.std.specs.Prelude.{◌==◌, ◌||◌, map}
-use Rattle.std.specs.List.{list_any}
-use Rattle.std.proofs.Math.Bool.{or-true}
-use Rattle.std.proofs.lemmas.Bool.{eq-eqb}
-use Rattle.tp_stream_files.specs.Outputs.{OutputValue}
+-- Which output or input a fault names.
+use Rattle.std.specs.Prelude.{IfErr, ◌==◌}
+use Rattle.std.proofs.Common.{Result, subst, take, ◌++◌, ◌≡◌, ℕ, ◌<◌, zero, suc, Bool, true, List, [], ◌∷◌, length, set, sym, ap, ◌∙◌, arith, ◌||◌, map}
+use Rattle.tp_stream.proofs.Lower.{take-append_seam, list_any, or-true, eq-eqb, OutputValue}
 use Rattle.tp_stream.specs.declared.fault.StreamFault.{StreamFault}
 use Rattle.tp_stream.specs.declared.fault.StreamFault.TheVariants.{Opening, Spare, Port as Absent, Unnamed, Short, Long, Gone, NotShown, ShortInput, InputFailed, OutputFailed, FlushFailed, NotStored, JournalFull, Memory}
-use Rattle.tp_stream.specs.FailedEnds.{NamesEnd, NamesInput, NamesOutput}
-use Rattle.tp_stream.specs.Streamed.{CameBetween, CameOfTurns}
+use Rattle.tp_stream.specs.FailedEnds.{NamesEnd, NamesInput, NamesNoEnd, NamesOutput}
+use Rattle.tp_stream.specs.Streamed.{CameBetween, CameOfFlush, CameOfTurns}
+use Rattle.tp_stream.proofs.Failures.{SaysNeither}
 
--- if one that passes a test is put at a place, one passes it
+-- if an item that passes a test is put into a list, some item of it passes
 any_set : {A : Type 0} (test : A → Bool) (xs : List A) (i : ℕ) (x : A) → i < length xs → test x ≡ true → list_any test (set xs i x) ≡ true
 any_set test [] i x within passes = absurd (omega (arith, within))
 any_set test (y ∷ ys) zero x within passes = ap (λ b. b || list_any test ys) passes
@@ -59,6 +57,40 @@ names_input port_of xs i x outputs FlushFailed within names = tt
 names_input port_of xs i x outputs NotStored within names = tt
 names_input port_of xs i x outputs JournalFull within names = tt
 names_input port_of xs i x outputs Memory within names = tt
+
+-- what was put back in place of a whole list
+put_back : {A : Type 0} (n : ℕ) (xs ys : List A) → length xs ≡ n → xs ≡ take n (xs ++ ys)
+put_back n xs ys is = sym (subst (λ k. take k (xs ++ ys) ≡ xs) is (take-append_seam xs ys))
+
+pub with_outputs : {A : Type 0} (r : Result A StreamFault) (n : ℕ) (outputs rest : List OutputValue) (inputs : List ℕ) → length outputs ≡ n → IfErr r (NamesEnd outputs inputs)
+    → IfErr r (NamesEnd (take n (outputs ++ rest)) inputs)
+with_outputs r n outputs rest inputs is names = subst (λ os. IfErr r (NamesEnd os inputs)) (put_back n outputs rest is) names
+
+pub with_inputs : {A I : Type 0} (port_of : I → ℕ) (r : Result A StreamFault) (n : ℕ) (outputs : List OutputValue) (inputs rest : List I) → length inputs ≡ n
+    → IfErr r (NamesEnd outputs (map port_of inputs)) → IfErr r (NamesEnd outputs (map port_of (take n (inputs ++ rest))))
+with_inputs port_of r n outputs inputs rest is names = subst (λ xs. IfErr r (NamesEnd outputs (map port_of xs))) (put_back n inputs rest is) names
+
+-- a fault that names no end that failed may come whatever the ends are
+pub names_none : (outputs : List OutputValue) (inputs : List ℕ) (fault : StreamFault) → NamesNoEnd fault → NamesEnd outputs inputs fault
+names_none outputs inputs (InputFailed port) names = absurd names
+names_none outputs inputs (OutputFailed port) names = absurd names
+names_none outputs inputs _ names = tt
+
+-- faults of turns, of flushes and of what begins name none
+pub turns_name_none : (fault : StreamFault) → CameOfTurns fault → NamesNoEnd fault
+turns_name_none (InputFailed port) came = absurd came
+turns_name_none (OutputFailed port) came = absurd came
+turns_name_none _ came = tt
+
+pub flush_names_none : (fault : StreamFault) → CameOfFlush fault → NamesNoEnd fault
+flush_names_none (InputFailed port) came = absurd came
+flush_names_none (OutputFailed port) came = absurd came
+flush_names_none _ came = tt
+
+pub neither_names_none : (fault : StreamFault) → SaysNeither fault → NamesNoEnd fault
+neither_names_none (InputFailed port) neither = absurd neither
+neither_names_none (OutputFailed port) neither = absurd neither
+neither_names_none _ neither = tt
 
 -- a fault of turns is one of what comes between two flushes
 pub turns_between : (fault : StreamFault) → CameOfTurns fault → CameBetween fault

@@ -1,20 +1,12 @@
 -- Which calls of the device have failed, and what is answered.
 use Rattle.std.proofs.Common.{◌≡◌, ◌⊎◌, ℕ, ◌+◌, inl, inr, Bool, true, false, List, Result, Ok, Err, refl, sym, ap, subst, ◌∙◌, arith}
 use Rattle.std.specs.Prelude.{IfErr, if◌then◌else◌}
-use Rattle.tp_model.specs.NodeState.{NodeState}
-use Rattle.tp_model.specs.Opening.{Opened}
-use Rattle.tp_model.specs.Topology.{Topology}
-use Rattle.tp_model.specs.WriteOrder.{Position, Broken, Resting}
-use Rattle.tp_model.specs.declared.opening.OpenFault.{OpenFault}
-use Rattle.tp_recover.specs.Reading.{has_read}
-use Rattle.tp_recover.specs.declared.unopened.Unopened.{Unopened}
+use Rattle.tp_stream.proofs.Lower.{NodeState, Opened, Topology, Position, Broken, Resting, OpenFault, has_read, Unopened}
 use Rattle.tp_recover.specs.declared.unopened.Unopened.TheVariants as opening
-use Rattle.tp_flush.specs.Ends.{Ended, Rested}
-use Rattle.tp_flush.specs.Flushing.{Flushing}
-use Rattle.tp_flush.specs.declared.fault.FlushFault.{FlushFault}
+use Rattle.tp_stream.proofs.Lower.{Rested, Flushing, FlushFault}
+use Rattle.tp_flush.specs.Ends.{Ended}
 use Rattle.tp_flush.specs.declared.fault.FlushFault.TheVariants as flush
-use Rattle.tp_stream_files.specs.Inputs.{GivenInput}
-use Rattle.tp_stream_files.specs.Outputs.{Given, OutputValue}
+use Rattle.tp_stream.proofs.Lower.{GivenInput, Given, OutputValue}
 use Rattle.tp_stream.specs.declared.fault.StreamFault.{StreamFault}
 use Rattle.tp_stream.specs.declared.fault.StreamFault.TheVariants.{Opening, Spare, Port as Absent, Unnamed, Short, Long, Gone, NotShown, ShortInput, InputFailed, OutputFailed, FlushFailed, NotStored, JournalFull, Memory}
 use Rattle.tp_stream.specs.declared.standing.Standing.{Standing}
@@ -51,7 +43,7 @@ pub turn_done : {A : Type 0} (r : Result A FlushFault) (x : A) (old new : Flushi
 turn_done (Ok y) x old new is E = none_more old new E
 turn_done (Err fault) x old new is E = absurd (cc)
 
--- one that was refused
+-- a turn that was refused
 pub turn_refused : {A : Type 0} (r : Result A FlushFault) (fault : FlushFault) (old new : Flushing) → r ≡ Err fault → Ended r old new → old.world.at ≡ Resting
     → FailedWhere (fault_failed (flushing_fault fault)) old new
 turn_refused (Ok x) fault old new is E rests = absurd (cc)
@@ -62,7 +54,7 @@ turn_refused {A} (Err other) fault old new is E rests =
 pub none_failed : (v : Flushing) → v.world.at ≡ Resting → FailedWhere false v v
 none_failed v rests = record { at = rests; calls = omega arith }
 
--- nothing is done after it, and nothing is answered that failed
+-- nothing is done after it, and the answer doesn't say that a call failed
 pub failed_still : (failed : Bool) (old mid new : Flushing) → new ≡ mid → failed ≡ false → FailedWhere false old mid → FailedWhere failed old new
 failed_still failed old mid new same none F = subst (λ f. FailedWhere f old new) (sym none) (subst (λ v. FailedWhere false old v) (sym same) F)
 
@@ -75,7 +67,7 @@ failed_then failed old mid new F G =
 
 -- ## Faults
 
--- what is answered so is that fault
+-- an answer with this fault is a fault of which `P` is true
 pub if_err : {A : Type 0} (r : Result A StreamFault) (fault : StreamFault) (P : StreamFault → Type 0) → r ≡ Err fault → P fault → IfErr r P
 if_err (Ok x) fault P is holds = tt
 if_err (Err other) fault P is holds = let same : fault ≡ other = cc in subst P same holds

@@ -1,18 +1,7 @@
 -- What a stream answers of a network that may be run.
 use Rattle.std.proofs.Common.{◌≡◌, ◌⊎◌, ◌<◌, inl, inr, ℕ, zero, suc, Bool, true, false, List, [], ◌∷◌, length, map, Option, Some, None, Result, Ok, Err, refl, ap, subst, ◌∙◌, arith}
 use Rattle.std.specs.Prelude.{IfErr, if◌then◌else◌, nat_le, slice_get}
-use Rattle.std.specs.Option.{option_map}
-use Rattle.std.proofs.lemmas.Bool.{leb-false}
-use Rattle.tp_model.specs.Node.{t414, t414_ends}
-use Rattle.tp_model.specs.Opening.{Opened}
-use Rattle.tp_model.specs.Order.{after}
-use Rattle.tp_model.specs.Spelling.{IsCut}
-use Rattle.tp_model.specs.Topology.{Topology}
-use Rattle.tp_law_machine.proofs.LinkLaws.{has_four_links}
-use Rattle.tp_law_network.proofs.Reorder.{after_shape}
-use Rattle.tp_stream_files.specs.Inputs.{GivenInput}
-use Rattle.tp_stream_files.specs.Outputs.{Given, OutputValue, given_of}
-use Rattle.tp_stream_files.specs.declared.ending.Ended.{Ended}
+use Rattle.tp_stream.proofs.Lower.{option_map, leb-false, t414, t414_ends, Opened, after, IsCut, Topology, has_four_links, after_shape, GivenInput, Given, OutputValue, given_of, Ended}
 use Rattle.tp_stream.specs.declared.fault.StreamFault.{StreamFault}
 use Rattle.tp_stream.specs.declared.fault.StreamFault.TheVariants.{Opening, Spare, Port as Absent, Unnamed, Short, Long, Gone, NotShown, ShortInput, InputFailed, OutputFailed, FlushFailed, NotStored, JournalFull, Memory}
 use Rattle.tp_stream.specs.declared.standing.Standing.{Standing}
@@ -60,7 +49,7 @@ begun_fits task t outputs inputs (Err Memory) fits begun = fits
 
 -- ## It may be run, and isn't begun
 
--- Why a stream isn't begun is neither a lack of frames nor a port without a name.
+-- The reason why a stream doesn't begin is neither a lack of frames nor a port without a sink.
 no_spare : (ports : ℕ) (stands : ℕ → Standing) (accepted_at : ℕ → ℕ) (gs : List Given) (is : List GivenInput) → (Spare ≡ Memory) ⊎ IsNotBegun ports stands accepted_at gs is Spare → ⊥
 no_spare ports stands accepted_at gs is either =
     elim either [

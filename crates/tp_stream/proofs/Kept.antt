@@ -1,17 +1,7 @@
 -- Room that is kept.
 use Rattle.std.proofs.Common.{◌≡◌, ℕ, ◌+◌, ◌-◌, ◌*◌, ◌≤◌, ◌<◌, inl, inr, Bool, true, false, [], ◌∷◌, length, length-append, Option, Some, refl, sym, ap, subst, ◌∙◌, arith}
 use Rattle.std.specs.Prelude.{if◌then◌else◌, nat_le}
-use Rattle.std.proofs.lemmas.Bool.{and_from, and_parts, le-leb, leb-true, le-ltb, lt-ltb, ltb-true, or_from}
-use Rattle.tp_model.specs.declared.entry.Entry.TheVariants.{Confirm}
-use Rattle.tp_model.specs.Entries.{takes}
-use Rattle.tp_model.specs.Halves.{without}
-use Rattle.tp_model.specs.Network.{sent}
-use Rattle.tp_model.specs.declared.limits.TheConstants.{NUMBER_LIMIT}
-use Rattle.tp_model.specs.Journal.{entry_room, is_full, reserve}
-use Rattle.tp_book.specs.Book.{BookValue, next_in_book, reserved}
-use Rattle.tp_book.specs.Host.{port_in, with_confirmed}
-use Rattle.tp_book.specs.Refusals.{is_journal_full}
-use Rattle.tp_area.specs.declared.journal.JournalRoom.{JournalRoom}
+use Rattle.tp_stream.proofs.Lower.{and_from, and_parts, le-leb, leb-true, le-ltb, lt-ltb, ltb-true, or_from, Confirm, takes, without, sent, NUMBER_LIMIT, entry_room, is_full, reserve, BookValue, next_in_book, reserved, port_in, with_confirmed, is_journal_full, JournalRoom}
 use Rattle.tp_stream.specs.Rooms.{IsConfirmed, UnreservedBook, has_room_for}
 
 not_full : (most kept entries runs base more lines : ℕ) (room : Option ℕ) → room ≡ Some most → kept ≡ reserve lines → runs ≡ 0
@@ -39,7 +29,7 @@ room_for_one journal b left some L there =
     not_full journal.bytes journal.kept (length b.state.entries) (reserved b) b.base 1 (length b.state.lines) b.room L.bound L.beside L.rests
     (omega (arith, bytes, some)) (omega (arith, numbers, some))
 
--- ## Behind a confirm
+-- ## After a confirm
 
 lines_stay : (b : BookValue) (port upto : ℕ) → (with_confirmed b port upto).state.lines ≡ b.state.lines
 unfolding sent takes without

@@ -1,13 +1,8 @@
--- Looks whether a stream is asked to stop, one after the other.
+-- Checks whether a stream is asked to stop, one after the other.
 use Rattle.std.proofs.Common.{◌≡◌, Bool, true, false, inl, inr, List, [], ◌∷◌, ◌++◌, Option, Some, None, Result, Ok, Err, refl, sym, ap, subst, ◌∙◌, append_assoc, append-nil}
 use Rattle.std.specs.Prelude.{if◌then◌else◌, IfOk, IfSome}
-use Rattle.std.proofs.lemmas.Bool.{true≢false}
-use Rattle.std.proofs.lemmas.List.Elements.{All-append, All-cons, All-nil}
-use Rattle.tp_model.specs.NodeState.{NodeState}
-use Rattle.tp_model.specs.Network.{Network}
+use Rattle.tp_stream.proofs.Lower.{true≢false, All-append, All-cons, All-nil, NodeState, Network, Ending, Quiet, Turns, Gone, Halted, Stopped}
 use Rattle.tp_stream.specs.declared.task.Task.{Task}
-use Rattle.tp_stream_files.specs.declared.ending.Ending.{Ending}
-use Rattle.tp_stream_files.specs.declared.ending.Ending.TheVariants.{Quiet, Turns, Gone, Halted, Stopped}
 use Rattle.tp_stream.specs.declared.fault.StreamFault.{StreamFault}
 use Rattle.tp_stream.specs.Looks.{HaveLooked, LooksAtMostOnce, is_stopped, looked}
 use Rattle.tp_stream.specs.Quiet.{IsWhyEnded}
@@ -54,7 +49,7 @@ one_yes task old mid new ended until is H grew = record {
   unasked = H.unasked;
 }
 
--- if it is over since it was asked to stop, that was to end it
+-- if a stream is over because it was asked to stop, the task says so
 stopped_until : (start : Network NodeState) (task : Task) (ended : Option Ending) → IfSome ended (IsWhyEnded start task) → is_stopped ended ≡ true → task.until_asked ≡ true
 stopped_until start task None why is = absurd (true≢false (sym is))
 stopped_until start task (Some Quiet) why is = absurd (true≢false (sym is))

@@ -1,15 +1,7 @@
 -- What a listener is told, one notice after the other.
 use Rattle.std.proofs.Common.{◌≡◌, ◌<◌, ◌≤◌, ◌+◌, ℕ, Bool, true, false, not, List, [], ◌∷◌, ◌++◌, map, take, set, length, get_or, get_or-set_other, get_or-set_same, Option, Some, None, Result, Ok, Err, sym, ap, subst, ◌∙◌, append_assoc, append-nil, arith, below_more}
-use Rattle.std.proofs.lemmas.Bool.{true≢false}
-use Rattle.std.proofs.lemmas.List.{map-append, take_all, take_more}
-use Rattle.std.proofs.lemmas.List.Elements.{All-append, All-cons, All-nil}
-use Rattle.std.proofs.lemmas.Option.{slice_get-get_or, slice_get_within}
 use Rattle.std.specs.Prelude.{OnOk, slice_get}
-use Rattle.tp_area.specs.declared.journal.JournalRoom.{JournalRoom}
-use Rattle.tp_flush.specs.Flushing.{Flushing}
-use Rattle.tp_stream_files.specs.Inputs.{GivenInput}
-use Rattle.tp_stream_files.specs.Notices.{Notice, OutputBegins, InputBegins, HasCome, Noticed}
-use Rattle.tp_stream_files.specs.Outputs.{Given, OutputValue, given_of}
+use Rattle.tp_stream.proofs.Lower.{true≢false, map-append, take_all, take_more, All-append, All-cons, All-nil, slice_get-get_or, slice_get_within, JournalRoom, Flushing, GivenInput, Notice, OutputBegins, InputBegins, HasCome, Noticed, Given, OutputValue, given_of}
 use Rattle.tp_stream.specs.declared.standing.Standing.{Standing}
 use Rattle.tp_stream.specs.Standing.{from_of}
 use Rattle.tp_stream.specs.Told.{HasTold, IsLater, TellsProgress, ToldFirst, ToldLater, input_begins, output_begins, put_in}
@@ -49,7 +41,7 @@ told_more f xs i x old mid new is before now =
 pub told_all : {A : Type 0} (f : A → Notice) (xs : List A) (i : ℕ) (old new : Option (List Notice)) → length xs ≤ i → Noticed (map f (take i xs)) old new → Noticed (map f xs) old new
 told_all f xs i old new all told = subst (λ ys. Noticed (map f ys) old new) (take_all i xs all) told
 
--- where an output begins that was set out
+-- the notice of an output that was set out
 pub said_output : (stands : ℕ → Standing) (old new : OutputValue) (port position : ℕ) (was is : Option (List Notice)) → given_of new ≡ given_of old
     → new.next ≡ from_of (stands old.port) (given_of old) → port ≡ new.port → position ≡ new.next → Noticed (OutputBegins port position ∷ []) was is
     → Noticed (output_begins stands (given_of old) ∷ []) was is

@@ -1,9 +1,7 @@
 -- What comes of an offer.
 use Rattle.std.proofs.Common.{inl, inr, true, refl, ap, Option, Some, None, Ok, Err}
+use Rattle.tp_stream.proofs.Lower.{RefusesFor, OfferFault, Memory}
 use Rattle.tp_stream.specs.Outcomes.{OfferAnswer, offer_left}
-use Rattle.tp_work.specs.Answers.{RefusesFor}
-use Rattle.tp_work.specs.declared.host_fault.OfferFault.{OfferFault}
-use Rattle.tp_work.specs.declared.host_fault.OfferFault.TheVariants.{Memory}
 
 pub offer_taken : {A : Type 0} (reason : Option OfferFault) (given : A) → RefusesFor Memory reason (Ok given) → OfferAnswer reason (Ok true)
 offer_taken None given taken = inl refl

@@ -1,20 +1,6 @@
 -- What steps put of outputs, under the book's lock.
-use Rattle.std.proofs.Common.{◌≡◌, ℕ, zero, suc, ◌+◌, ◌-◌, ◌≤◌, ◌<◌, inl, inr, true, List, [], ◌∷◌, ◌++◌, length, take, drop, set, get_or, refl, sym, ap, subst, ◌∙◌, arith, append-nil}
-use Rattle.std.proofs.lemmas.List.{drop-drop, take_all}
-use Rattle.tp_model.specs.NodeState.{NodeState}
-use Rattle.tp_model.specs.Node.{t414}
-use Rattle.tp_model.specs.Network.{Network, Port}
-use Rattle.tp_model.specs.Markers.{plain_network}
-use Rattle.tp_model.specs.Order.{after}
-use Rattle.tp_model.specs.Runs.{World}
-use Rattle.tp_book.specs.Book.{BookValue, next_in_book, world_of}
-use Rattle.tp_book.specs.Host.{port_in, shown_from, shown_of}
-use Rattle.tp_flush.specs.Ahead.{IsAheadOf}
-use Rattle.std.proofs.lemmas.List.{length-append}
-use Rattle.tp_stream_files.specs.Held.{HasPut}
-use Rattle.tp_stream_files.specs.Outputs.{WasPutSafely, OutputValue}
-use Rattle.tp_stream_files.proofs.StreamEndsSinks.{none_put}
-use Rattle.tp_stream_files.specs.declared.ending.Ending.{Ending}
+use Rattle.std.proofs.Common.{◌≡◌, ℕ, zero, suc, ◌+◌, ◌-◌, ◌≤◌, ◌<◌, inl, inr, true, List, [], ◌∷◌, ◌++◌, length, take, drop, set, get_or, refl, sym, ap, subst, ◌∙◌, arith, append-nil, length-append}
+use Rattle.tp_stream.proofs.Lower.{drop-drop, take_all, NodeState, t414, Network, Port, plain_network, after, World, BookValue, next_in_book, world_of, port_in, shown_from, shown_of, IsAheadOf, HasPut, WasPutSafely, OutputValue, none_put, Ending}
 use Rattle.tp_stream.specs.Put.{EachWith, EndsPut, LeadsToBytes, are_put, port_or_fresh}
 use Rattle.tp_stream.specs.Steps.{AreLeft, Extends, IsPartConfirmed, PutsLeft, PutsShown, PortsStand}
 
@@ -59,7 +45,7 @@ nothing_in : {A : Type 0} (xs : List A) → length xs ≡ 0 → xs ≡ []
 nothing_in [] e = refl
 nothing_in (x ∷ xs) e = absurd (omega (arith, e))
 
--- if a mark is above all of a book, the journal that the flusher knows is all of it
+-- if a mark is above all entries of a book, the journal that the flusher knows has all of them
 pub all_in_journal : (start : Network NodeState) (w : World NodeState) (b : BookValue) → (A : IsAheadOf start w b) → next_in_book b ≤ w.mark → (A.more ≡ []) × (length w.journal ≡ next_in_book b)
 all_in_journal start w b A stored =
     let many = A.many in
@@ -125,7 +111,7 @@ shows_left start w b c mark port from S left up =
       are = shown_is (port_or_fresh S.state port) (port_in c port) (shown_of c port mark) from L up;
     }
 
--- ## Outputs one behind the other
+-- ## Outputs one after the other
 
 pub each_same : (R : OutputValue → OutputValue → Type 0) → ((x : OutputValue) → R x x) → (xs : List OutputValue) → EachWith R xs xs
 each_same R same [] = tt

@@ -1,25 +1,9 @@
 -- Turns that had nothing to do.
 use Rattle.std.proofs.Common.{◌≡◌, ℕ, ◌+◌, ◌≤◌, ◌<◌, inl, inr, Bool, true, length, None, IsSome, Result, Ok, Err, refl, sym, ap, subst, ◌∙◌, arith, below_more}
-use Rattle.std.proofs.lemmas.Bool.{cases_lt, lt-ltb, le-ltb}
 use Rattle.std.specs.Prelude.{nat_lt, if◌then◌else◌, IfOk}
-use Rattle.tp_model.specs.NodeState.{NodeState}
-use Rattle.tp_model.specs.Network.{Network}
-use Rattle.tp_model.specs.Node.{node_step}
-use Rattle.tp_model.specs.Topology.{Topology, node_count}
-use Rattle.tp_model.specs.Step.{step_of}
-use Rattle.tp_model.specs.NodeWrites.{node_ranges}
-use Rattle.tp_model.specs.SharedPages.{LacksFrames}
-use Rattle.tp_node.specs.NodeContents.{memory_kept}
-use Rattle.tp_node.specs.RunEnd.{IsWhy}
-use Rattle.tp_node.specs.declared.run.Why.{Why}
-use Rattle.tp_node.specs.declared.run.Why.TheVariants.{Full, Idle, NoFrame, Halted as Stopped}
-use Rattle.tp_shared.specs.Holds.{InHand}
-use Rattle.tp_shared.specs.TurnsMade.{HostTurnMade, TurnMade}
-use Rattle.tp_shared.specs.declared.node_turn.NodeTurn.{NodeTurn}
+use Rattle.tp_stream.proofs.Lower.{cases_lt, lt-ltb, le-ltb, NodeState, Network, node_step, Topology, node_count, step_of, node_ranges, LacksFrames, memory_kept, IsWhy, Why, Full, Idle, NoFrame, InHand, HostTurnMade, TurnMade, NodeTurn, Ended, Ending, Quiet, Turns, Gone, Halted, AskedTo}
+use Rattle.tp_node.specs.declared.run.Why.TheVariants.{Halted as Stopped}
 use Rattle.tp_stream.specs.declared.task.Task.{Task}
-use Rattle.tp_stream_files.specs.declared.ending.Ended.{Ended}
-use Rattle.tp_stream_files.specs.declared.ending.Ending.{Ending}
-use Rattle.tp_stream_files.specs.declared.ending.Ending.TheVariants.{Quiet, Turns, Gone, Halted, Stopped as AskedTo}
 use Rattle.tp_stream.specs.declared.fault.StreamFault.{StreamFault}
 use Rattle.tp_stream.specs.declared.pumping.Pumped.{Pumped}
 use Rattle.tp_stream.specs.declared.turns.Turns.{Turns as TurnsValue}
@@ -31,7 +15,7 @@ halted_rests : (node : NodeState) → IsSome node.cpu.halt → node_step node �
 unfolding node_step step_of
 halted_rests node halted = rw halted refl
 
--- a run that ended since there is no step
+-- a run that ended because the node has no step
 no_step : (why : Why) (max count : ℕ) (cause : Type 0) (now : NodeState) → IsWhy why max count cause now → HasNoStep why → node_step now ≡ None
 no_step Full max count cause now is none = absurd none
 no_step Idle max count cause now is none = is.1
@@ -56,7 +40,7 @@ host_rests start takes old new went none = record { old = old; new = new; went =
 
 -- ## Turns in a row
 
--- of no turns each had nothing to do
+-- before the first turn, there is nothing to show
 pub none_rested : (start : Network NodeState) (whose idle : ℕ) → whose ≤ length start.nodes → idle ≡ 0 → HaveRested start whose idle
 none_rested start whose idle low none = record {
   whose_is = low;
@@ -125,7 +109,7 @@ all_rested start whose idle H many p there =
 
 -- ## Why a stream is over
 
--- it was asked to end so
+-- a reason why a stream ended is one for which the task asked
 asked : (start : Network NodeState) (task : Task) (why : Ending) → IsWhyEnded start task why → IsAsked task why
 asked start task Quiet is = is.0
 asked start task Turns is = is

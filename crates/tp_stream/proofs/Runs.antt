@@ -1,23 +1,7 @@
 -- What streams leave of a device.
 use Rattle.std.proofs.Common.{◌≡◌, ◌≤◌, ◌+◌, inl, inr, List, [], ◌∷◌, length, map, ℕ, Result, Ok, Err, refl, sym, ap, subst, ◌∙◌, arith}
 use Rattle.std.specs.Prelude.{IfErr, IfOk}
-use Rattle.std.proofs.lemmas.Result.{IfOk-weaker}
-use Rattle.tp_model.specs.declared.entry.Entry.{Entry}
-use Rattle.tp_model.specs.NodeState.{NodeState}
-use Rattle.tp_model.specs.Network.{Network}
-use Rattle.tp_model.specs.Disk.{MayBe}
-use Rattle.tp_model.specs.DiskHistory.{State, moment}
-use Rattle.tp_model.specs.Opening.{Opened, held_of, next_of, verdict}
-use Rattle.tp_model.specs.Runs.{World, reopened}
-use Rattle.tp_recover.specs.Reading.{LeavesNothingNew}
-use Rattle.tp_flush.specs.Known.{Began, Reached}
-use Rattle.tp_flush.specs.Flushing.{Flushing, Walked}
-use Rattle.tp_flush.specs.Follows.{Follows}
-use Rattle.tp_flush.proofs.Follows.{number_is, read_alone, read_first, stored_follows, walked_either, walked_follows}
-use Rattle.tp_recover.proofs.Leaving.{none_leaves}
-use Rattle.tp_stream_files.specs.Held.{HasPut}
-use Rattle.tp_stream_files.specs.Outputs.{Given, OutputValue, given_of}
-use Rattle.tp_stream_files.specs.declared.ending.Ended.{Ended}
+use Rattle.tp_stream.proofs.Lower.{IfOk-weaker, Entry, NodeState, Network, MayBe, State, moment, Opened, held_of, next_of, verdict, World, reopened, LeavesNothingNew, Began, Reached, Flushing, Walked, Follows, number_is, read_alone, read_first, stored_follows, walked_either, walked_follows, none_leaves, HasPut, Given, OutputValue, given_of, Ended, none_put}
 use Rattle.tp_stream.specs.declared.fault.StreamFault.{StreamFault}
 use Rattle.tp_stream.specs.declared.fault.StreamFault.TheVariants.{Opening, Spare, Port, Unnamed, Short, Long, Gone, NotShown, ShortInput, InputFailed, OutputFailed, FlushFailed, NotStored, JournalFull, Memory}
 use Rattle.tp_stream.specs.declared.standing.Standing.{Standing}
@@ -27,7 +11,6 @@ use Rattle.tp_stream.specs.Steps.{AllStepped, IsSetOut}
 use Rattle.tp_stream.specs.Streamed.{CameBegun, StaysUnstreamed, Streamed}
 use Rattle.tp_stream.proofs.Puts.{each_same, each_then}
 use Rattle.tp_stream.proofs.Stepping.{all_got}
-use Rattle.tp_stream_files.proofs.StreamEndsSinks.{none_put}
 
 -- a device that was opened, and whose flusher walked on from there, with steps of outputs on the way
 pub served : (start : Network NodeState) (before : World NodeState) (o : Opened) (old new : Flushing) (result : Result Ended StreamFault) → Began start before old.state.now.bytes
@@ -116,7 +99,7 @@ into start result o was set now old read new L same reads sets S =
       ends = S.ends;
     }
 
--- a stream that was begun isn't answered as one that wasn't
+-- a stream that began has no answer that says that it didn't
 pub begun_written : (r : Result Ended StreamFault) → IfErr r CameBegun → StaysUnstreamed r → ⊥
 begun_written (Ok next) begun unbegun = unbegun
 begun_written (Err (Opening unopened)) begun unbegun = begun

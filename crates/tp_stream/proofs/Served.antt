@@ -1,14 +1,6 @@
 -- Laps, and flushes after them, one after the other.
 use Rattle.std.proofs.Common.{◌≡◌, Bool, false, List, Option, Result, Ok, Err, sym, subst, ◌∙◌}
-use Rattle.tp_model.specs.NodeState.{NodeState}
-use Rattle.tp_model.specs.Network.{Network}
-use Rattle.tp_model.specs.Runs.{World}
-use Rattle.tp_model.specs.WriteOrder.{Resting}
-use Rattle.tp_flush.specs.Flushing.{Flushing, IsSameProcess, Walked}
-use Rattle.tp_flush.specs.Known.{Began}
-use Rattle.tp_flush.proofs.Turns.{walked_then}
-use Rattle.tp_stream_files.specs.Outputs.{OutputValue}
-use Rattle.tp_stream_files.specs.declared.ending.Ending.{Ending}
+use Rattle.tp_stream.proofs.Lower.{NodeState, Network, World, Resting, Flushing, IsSameProcess, Walked, Began, walked_then, OutputValue, Ending}
 use Rattle.tp_stream.specs.declared.fault.StreamFault.{StreamFault}
 use Rattle.tp_stream.specs.declared.task.Task.{Task}
 use Rattle.tp_stream.specs.Failures.{FailedWhere}

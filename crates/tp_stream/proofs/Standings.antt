@@ -1,26 +1,10 @@
 -- Outputs that may begin.
 use Rattle.std.proofs.Common.{◌≡◌, ℕ, zero, suc, ◌+◌, ◌*◌, ◌≤◌, ◌<◌, ◌⊎◌, inl, inr, cond, List, [], ◌∷◌, length, map, set, get_or, replicate, Option, Some, Result, Ok, Err, refl, sym, ap, subst, ◌∙◌, arith, below_more}
 use Rattle.std.specs.Prelude.{slice_get, nat_le, count_by, IfErr, OnOk}
-use Rattle.std.specs.Option.{option_map}
-use Rattle.std.proofs.Math.Path.{fun_ext}
-use Rattle.std.proofs.lemmas.Bool.{le-leb}
-use Rattle.std.proofs.lemmas.List.{map-set, set-get_or}
-use Rattle.std.proofs.lemmas.List.Folds.{sum_by-replicate}
-use Rattle.std.proofs.lemmas.Option.{slice_get-get_or, slice_get-map, slice_get_within}
-use Rattle.tp_model.specs.Network.{Port}
-use Rattle.tp_model.specs.Opening.{Opened, verdict}
-use Rattle.tp_book.specs.Counted.{AreCounted}
-use Rattle.tp_book.specs.Ports.{fresh_value, opened_port}
-use Rattle.tp_book.specs.declared.state.NetState.{NetState}
-use Rattle.tp_book.specs.Book.{BookValue, outputs_of}
-use Rattle.tp_book.specs.Host.{accepted_of, port_in}
-use Rattle.tp_book.specs.Opened.{now_of, opened_book}
-use Rattle.tp_stream_files.specs.declared.ending.Ended.{Ended}
+use Rattle.tp_stream.proofs.Lower.{option_map, fun_ext, le-leb, map-set, set-get_or, sum_by-replicate, slice_get-get_or, slice_get-map, slice_get_within, Port, Opened, verdict, AreCounted, fresh_value, opened_port, NetState, BookValue, outputs_of, accepted_of, port_in, now_of, opened_book, Ended, GivenInput, HasAtLeast, Given, OutputValue, given_of}
 use Rattle.tp_stream.specs.declared.fault.StreamFault.{StreamFault}
 use Rattle.tp_stream.specs.declared.fault.StreamFault.TheVariants.{Opening, Spare, Port as Absent, Unnamed, Short, Long, Gone, NotShown, ShortInput, InputFailed, OutputFailed, FlushFailed, NotStored, JournalFull, Memory}
 use Rattle.tp_stream.specs.declared.standing.Standing.{Standing}
-use Rattle.tp_stream_files.specs.Inputs.{GivenInput, HasAtLeast}
-use Rattle.tp_stream_files.specs.Outputs.{Given, OutputValue, given_of}
 use Rattle.tp_stream.specs.Standing.{AllHaveAccepted, AllMayBegin, HaveAcceptedBelow, IsFirstRefused, IsFirstShort, IsNotBegun, MayBegin, MayBeginBelow, OfInput, OfOutput, Refuses, RefusesInput, accepted_at, accepted_opened, put_out, port_standing, stands_opened}
 use Rattle.tp_stream.specs.Streamed.{CameBegun}
 
@@ -31,15 +15,15 @@ outputs_in [] p xs is = absurd (cc)
 outputs_in (q ∷ qs) zero xs is = cc
 outputs_in (q ∷ qs) (suc p) xs is = outputs_in qs p xs is
 
--- as many as are seen of it
+-- the book has as many outputs of a port as were seen
 pub length_outputs : (b : BookValue) (p : ℕ) (xs : List ℕ) → Some xs ≡ outputs_of b p → length xs ≡ length (port_in b p).outputs
 length_outputs b p xs is = ap length (outputs_in b.state.ports p xs is)
 
--- no more than there are entries
+-- a port has put out no more outputs than there are entries
 pub put_out_few : (b : BookValue) (mark p : ℕ) → AreCounted mark b.state.ports → p < length b.state.ports → put_out (port_in b p) ≤ mark
 put_out_few b mark p counted there = (counted p (port_in b p) (slice_get-get_or b.state.ports p fresh_value.port there)).outputs
 
--- ## Outputs one behind the other
+-- ## Outputs one after the other
 
 -- what is set out is given as before
 pub given_set : (xs : List OutputValue) (i : ℕ) (d y : OutputValue) → given_of y ≡ given_of (get_or xs i d) → map given_of (set xs i y) ≡ map given_of xs
@@ -73,7 +57,7 @@ all_shown mark [] p = refl
 all_shown mark (q ∷ qs) zero = zeros_shown mark (length q.outputs)
 all_shown mark (q ∷ qs) (suc p) = all_shown mark qs p
 
--- each port is as it does in what was opened
+-- each port of the opened book has come as far as the device says
 pub opened_stands : (s : NetState) (room : Option ℕ) (o : Opened) (mark : ℕ) → now_of s ≡ o.now → port_standing (opened_book s room) mark ≡ stands_opened o
 opened_stands s room o mark now = fun_ext (λ p.
     ap (λ shown. record { confirmed = (get_or (now_of s).ports p fresh_value.port).out_base; shown = (get_or (now_of s).ports p fresh_value.port).out_base + shown; upto = put_out (get_or (now_of s).ports p fresh_value.port) }) (all_shown mark (now_of s).ports p)
@@ -97,7 +81,7 @@ said NotStored P p = tt
 said JournalFull P p = tt
 said Memory P p = tt
 
--- one that is of no output says nothing
+-- a fault that isn't of an output claims nothing about outputs
 pub no_output : (fault : StreamFault) (P : Type 0) → OfOutput fault ⊥ → OfOutput fault P
 no_output (Opening unopened) P none = tt
 no_output Spare P none = tt
@@ -164,7 +148,7 @@ said_input NotStored P p = tt
 said_input JournalFull P p = tt
 said_input Memory P p = tt
 
--- one that is of no input says nothing
+-- a fault that isn't of an input claims nothing about inputs
 pub no_input : (fault : StreamFault) (P : Type 0) → OfInput fault ⊥ → OfInput fault P
 no_input (Opening unopened) P none = tt
 no_input Spare P none = tt
@@ -204,7 +188,7 @@ pub begun_short : (r : Result Ended StreamFault) (P : StreamFault → Type 0) �
 begun_short (Ok ended) P begun = tt
 begun_short (Err fault) P begun = no_input fault (P fault) (begun_input fault begun)
 
--- one that refuses an output is of no input
+-- a fault that refuses an output isn't of an input
 output_refused : (s : Standing) (g : Given) (fault : StreamFault) (P : Type 0) → Refuses s g fault → OfInput fault P
 output_refused s g (Opening unopened) P why = tt
 output_refused s g Spare P why = tt
@@ -222,7 +206,7 @@ output_refused s g NotStored P why = tt
 output_refused s g JournalFull P why = tt
 output_refused s g Memory P why = tt
 
--- one that refuses an input is of no output
+-- a fault that refuses an input isn't of an output
 input_refused : (n : ℕ) (g : GivenInput) (fault : StreamFault) (P : Type 0) → RefusesInput n g fault → OfOutput fault P
 input_refused n g (Opening unopened) P why = tt
 input_refused n g Spare P why = tt
@@ -274,7 +258,7 @@ says_short ports stands accepted_at gs inputs fault either =
       | inr (inr input) ↦ said_input fault First input
     ]
 
--- ## Inputs one behind the other
+-- ## Inputs one after the other
 
 pub input_at : {A : Type 0} (f : A → GivenInput) (xs : List A) (i : ℕ) (x : A) → i < length xs → x ≡ get_or xs i x → slice_get (map f xs) i ≡ Some (f x)
 input_at f xs i x there is = slice_get-map f xs i ∙ ap (option_map f) (slice_get-get_or xs i x there) ∙ ap (λ y. Some (f y)) (sym is)
@@ -294,7 +278,7 @@ have_accepted_more accepted_at gs i h below at here =
 pub opened_accepted : (s : NetState) (room : Option ℕ) (o : Opened) → now_of s ≡ o.now → accepted_at (opened_book s room) ≡ accepted_opened o
 opened_accepted s room o now = fun_ext (λ p. ap (λ net. accepted_of (get_or net.ports p fresh_value.port)) now)
 
--- why nothing is begun, of ports that are so
+-- why a stream doesn't begin, by other descriptions of the same ports
 pub not_begun_as : (many few : ℕ) (stands at : ℕ → Standing) (taken had : ℕ → ℕ) (gs : List Given) (inputs : List GivenInput) (fault : StreamFault)
     → many ≡ few → stands ≡ at → taken ≡ had → IsNotBegun many stands taken gs inputs fault → IsNotBegun few at had gs inputs fault
 not_begun_as many few stands at taken had gs inputs fault ports where_ accept is =

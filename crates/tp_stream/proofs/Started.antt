@@ -1,16 +1,6 @@
 -- Networks that a device's parts are picked for.
 use Rattle.std.proofs.Common.{◌≡◌, length, sym, ap, ◌∙◌}
-use Rattle.std.proofs.lemmas.List.{length-map}
-use Rattle.tp_model.specs.Image.{page_count}
-use Rattle.tp_model.specs.NodeState.{NodeState}
-use Rattle.tp_model.specs.Network.{Network}
-use Rattle.tp_model.specs.Node.{t414_ends}
-use Rattle.tp_model.specs.Opening.{Opened}
-use Rattle.tp_model.specs.OpensTo.{book_of}
-use Rattle.tp_model.specs.Snapshot.{MarkedNetwork}
-use Rattle.tp_model.specs.Spelling.{IsCut}
-use Rattle.tp_model.specs.Topology.{node_count}
-use Rattle.tp_book.specs.Book.{BookValue, world_of}
+use Rattle.tp_stream.proofs.Lower.{length-map, page_count, NodeState, Network, t414_ends, Opened, book_of, MarkedNetwork, IsCut, node_count, BookValue, world_of}
 
 -- such a network has the nodes of the topology
 pub nodes_of : (o : Opened) (b : BookValue) (start : Network NodeState) → world_of b ≡ book_of o → IsCut t414_ends o.head.topology o.base o.cut → length b.state.start.nodes ≡ length start.nodes

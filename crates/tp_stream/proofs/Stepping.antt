@@ -1,32 +1,11 @@
--- Steps, one after the other, and what they put as a device goes on.
-use Rattle.std.proofs.Common.{◌≡◌, ℕ, ◌+◌, ◌≤◌, inl, inr, List, [], ◌∷◌, ◌++◌, length, take, Option, Some, None, refl, sym, ap, subst, ◌∙◌, arith, append-nil, append_assoc, length-append}
-use Rattle.std.specs.Prelude.{map}
-use Rattle.std.proofs.lemmas.List.{take-take}
-use Rattle.tp_model.specs.NodeState.{NodeState}
-use Rattle.tp_model.specs.Node.{t414}
-use Rattle.tp_model.specs.Network.{Network}
-use Rattle.tp_model.specs.Order.{after}
-use Rattle.tp_model.specs.DiskHistory.{moment}
-use Rattle.tp_model.specs.DeviceAreas.{device_areas}
-use Rattle.tp_model.specs.Runs.{World}
-use Rattle.tp_model.specs.Walks.{RecoversTo}
-use Rattle.tp_disk.proofs.Calls.{weaker}
-use Rattle.tp_law_network.proofs.Walks.{chain_leads}
-use Rattle.tp_book.specs.Book.{BookValue}
-use Rattle.tp_book.specs.Host.{shown_from}
-use Rattle.tp_flush.specs.Known.{Reached}
-use Rattle.tp_flush.specs.Flushing.{Flushing, Walked}
-use Rattle.tp_flush.proofs.Kept.{reached_then}
-use Rattle.tp_flush.proofs.Recovers.{recovers_less}
-use Rattle.tp_flush.proofs.Turns.{walked_recovers, walked_stays, walked_then}
-use Rattle.tp_stream_files.specs.Held.{HeldBytes, HasPut}
-use Rattle.tp_stream_files.specs.Outputs.{OutputValue}
-use Rattle.tp_stream_files.proofs.StreamEndsSinks.{none_put}
+-- Steps, one after the other, and what they put while a device goes on.
+use Rattle.std.proofs.Common.{◌≡◌, ℕ, ◌+◌, ◌≤◌, inl, inr, List, [], ◌∷◌, ◌++◌, length, take, Option, Some, None, refl, sym, ap, subst, ◌∙◌, arith, append-nil, append_assoc, length-append, map}
+use Rattle.tp_stream.proofs.Lower.{take-take, NodeState, t414, Network, after, moment, device_areas, World, RecoversTo, weaker, chain_leads, BookValue, shown_from, Reached, Flushing, Walked, reached_then, recovers_less, walked_recovers, walked_stays, walked_then, HeldBytes, HasPut, OutputValue, none_put}
 use Rattle.tp_stream.specs.Put.{ArePut, EachWith, Got, PutPiece, LeadsToBytes, bytes_put}
 use Rattle.tp_stream.specs.Steps.{AllStepped, AreSteps, PutsLeft, PortsStand, PutStep, Stepped, put_by}
 use Rattle.tp_stream.proofs.Puts.{each_like, each_same, each_then, shows_left}
 
--- ## Bytes behind bytes
+-- ## Bytes after bytes
 
 put_more : (n : ℕ) (xs ys : List ℕ) (a b c : Option HeldBytes) → HasPut n xs a b → HasPut (n + length xs) ys b c → HasPut n (xs ++ ys) a c
 put_more n xs ys None None None first then = tt
@@ -43,7 +22,7 @@ put_both : (ss ts : List PutStep) → put_by (ss ++ ts) ≡ put_by ss ++ put_by 
 put_both [] ts = refl
 put_both (s ∷ ss) ts = ap (λ l. s.bytes ++ l) (put_both ss ts) ∙ sym (append_assoc s.bytes (put_by ss) (put_by ts))
 
--- ## Steps behind steps
+-- ## Steps after steps
 
 steps_since : (start : Network NodeState) (first old new : Flushing) → Walked first old → (port from : ℕ) (ss : List PutStep) → AreSteps start old new port from ss → AreSteps start first new port from ss
 steps_since start first old new W port from [] each = tt

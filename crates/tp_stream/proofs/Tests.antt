@@ -1,10 +1,7 @@
--- A test of each of a list, or of one, as a loop over it goes on and comes to an end.
+-- Tests of all items of a list, or of some item, for the loops over it.
 use Rattle.std.proofs.Common.{◌≡◌, ◌≤◌, ◌<◌, ◌+◌, ℕ, suc, Bool, true, false, ◌&&◌, ◌||◌, List, length, map, take, drop, get_or, Some, sym, ap, subst, ◌∙◌, arith, drop-cons}
-use Rattle.std.specs.List.{list_all, list_any}
 use Rattle.std.specs.Prelude.{if◌then◌else◌}
-use Rattle.std.proofs.lemmas.Bool.{le-leb, lt-leb}
-use Rattle.std.proofs.lemmas.List.{take_all}
-use Rattle.std.proofs.lemmas.List.Folds.{list_all_at, list_all_more, list_any_at, list_any_more}
+use Rattle.tp_stream.proofs.Lower.{list_all, list_any, le-leb, lt-leb, take_all, list_all_at, list_all_more, list_any_at, list_any_more}
 use Rattle.tp_stream.specs.Fitting.{first_past}
 
 module _ {X : Type 0} (p : X → Bool) (xs : List X) (i : ℕ) where

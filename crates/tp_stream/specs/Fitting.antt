@@ -1,61 +1,57 @@
--- Whether a network may be run as a task asks on what takes its outputs and where its inputs come from.
+-- Whether a network can be run as a task asks, given the outputs and inputs that are named.
 use Rattle.std.specs.Prelude.{◌≡◌, ◌<◌, ℕ, ◌+◌, ◌*◌, ◌==◌, Bool, true, false, nat_le, nat_lt, if◌then◌else◌, List, [], ◌∷◌, map, Option, Some, None, Result, Ok, Err}
-use Rattle.std.specs.List.{list_any}
-use Rattle.tp_model.specs.Network.{has_wire}
-use Rattle.tp_model.specs.Topology.{Topology, node_count}
-use Rattle.tp_stream_files.specs.Outputs.{OutputValue}
-use Rattle.tp_stream_files.specs.declared.ending.Ended.{Ended}
+use Rattle.tp_stream.specs.Lower.{list_any, has_wire, Topology, node_count, OutputValue, Ended}
 use Rattle.tp_stream.specs.declared.task.Task.{Task}
 use Rattle.tp_stream.specs.declared.fault.StreamFault.{StreamFault}
 use Rattle.tp_stream.specs.declared.fault.StreamFault.TheVariants.{Opening, Spare, Port as Absent, Unnamed, Short, Long, Gone, NotShown, ShortInput, InputFailed, OutputFailed, FlushFailed, NotStored, JournalFull, Memory}
 
--- one of the nodes has fewer pages than `spare`
+-- whether some node has fewer pages than `spare`
 abbrev pub lacks_pages : ℕ → Topology → Bool
 lacks_pages spare t = list_any (λ pages. nat_lt pages spare) t.pages
 
--- the first of some ports that isn't one of the first `ports`
+-- the first of these ports that isn't one of the first `ports` ports
 abbrev pub first_past : ℕ → List ℕ → Option ℕ
 first_past ports [] = None
 first_past ports (p ∷ ps) = if nat_le ports p then Some p else first_past ports ps
 
--- if there is none, the first of some others
+-- `first` if there is one, else the first of these other ports that doesn't exist
 abbrev pub else_past : ℕ → List ℕ → Option ℕ → Option ℕ
 else_past ports others None = first_past ports others
 else_past ports others (Some p) = Some p
 
--- the first port of an output that doesn't exist; if each does, of an input
+-- the first port of an output that doesn't exist; if all do, the first port of an input that doesn't
 abbrev pub absent_of : Topology → List OutputValue → List ℕ → Option ℕ
 absent_of t outputs inputs = else_past t.ports inputs (first_past t.ports (map (λ (o : OutputValue). o.port) outputs))
 
--- a sink is for a port
+-- whether some sink is for this port
 abbrev pub has_sink : ℕ → List OutputValue → Bool
 has_sink port outputs = list_any (λ (o : OutputValue). o.port == port) outputs
 
--- a port has a wire
+-- whether a port has a wire
 abbrev pub port_has_wire : Topology → ℕ → Bool
 port_has_wire t port = has_wire t.wires (4 * node_count t + port)
 
--- If a port has a wire, a sink is for it.
+-- If this port has a wire, a sink is for it.
 abbrev pub IsNamed : Topology → List OutputValue → ℕ → Type 0
 IsNamed t outputs port = port_has_wire t port ≡ true → has_sink port outputs ≡ true
 
 abbrev pub AllNamed : Topology → List OutputValue → Type 0
 AllNamed t outputs = (port : ℕ) → port < t.ports → IsNamed t outputs port
 
--- The first port that has a wire, and no sink.
+-- This is the first port that has a wire, but no sink.
 pub record IsFirstUnnamed (t : Topology) (outputs : List OutputValue) (port : ℕ) : Type 0 where
   pub there : port < t.ports
   pub wire : port_has_wire t port ≡ true
   pub nobody : has_sink port outputs ≡ false
   pub before : (other : ℕ) → other < port → IsNamed t outputs other
 
--- It may be run: each node has as many pages as it is to have spare frames, each named port exists, and each port with a wire is named.
+-- The network can be run. Each node has at least as many pages as spare frames, each named port exists, and each port with a wire has a sink.
 pub record Fits (task : Task) (t : Topology) (outputs : List OutputValue) (inputs : List ℕ) : Type 0 where
   pub pages : lacks_pages task.spare t ≡ false
   pub there : absent_of t outputs inputs ≡ None
   pub named : AllNamed t outputs
 
--- Why it may not: what comes first of these.
+-- Why the network can't be run: the first of these faults.
 abbrev pub Unfit : Task → Topology → List OutputValue → List ℕ → StreamFault → Type 0
 Unfit task t outputs inputs (Opening unopened) = ⊥
 Unfit task t outputs inputs Spare = lacks_pages task.spare t ≡ true
@@ -74,7 +70,7 @@ Unfit task t outputs inputs NotStored = ⊥
 Unfit task t outputs inputs JournalFull = ⊥
 Unfit task t outputs inputs Memory = ⊥
 
--- A fault says why it may not be run, or is none of those that do, and it may.
+-- Either the fault says why the network can't be run, or it says something else, and the network can be run.
 abbrev pub SaysUnfit : Task → Topology → List OutputValue → List ℕ → StreamFault → Type 0
 SaysUnfit task t outputs inputs (Opening unopened) = Unit {0}
 SaysUnfit task t outputs inputs Spare = Unfit task t outputs inputs Spare
@@ -92,7 +88,7 @@ SaysUnfit task t outputs inputs NotStored = Fits task t outputs inputs
 SaysUnfit task t outputs inputs JournalFull = Fits task t outputs inputs
 SaysUnfit task t outputs inputs Memory = Fits task t outputs inputs
 
--- A stream was run only if it may be, and what it answers says so.
+-- What a stream answers agrees with whether the network can be run.
 abbrev pub SaysFit : Task → Topology → List OutputValue → List ℕ → Result Ended StreamFault → Type 0
 SaysFit task t outputs inputs (Ok ended) = Fits task t outputs inputs
 SaysFit task t outputs inputs (Err fault) = SaysUnfit task t outputs inputs fault

@@ -1,3 +1,4 @@
+pub mod Lower
 pub mod Endings
 pub mod FailedEnds
 pub mod Failures

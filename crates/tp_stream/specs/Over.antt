@@ -1,9 +1,8 @@
--- Inputs that are over as a stream ends.
+-- Whether inputs are over when a stream ends.
 use Rattle.std.specs.Prelude.{◌≡◌, Bool, true}
-use Rattle.tp_stream_files.specs.declared.ending.Ending.{Ending}
-use Rattle.tp_stream_files.specs.declared.ending.Ending.TheVariants.{Quiet, Turns, Gone, Halted, Stopped}
+use Rattle.tp_stream.specs.Lower.{Ending, Quiet, Turns, Gone, Halted, Stopped}
 
--- If it ended as quiet, and `over` says whether nothing is left of each input that its port may take: nothing is.
+-- If the stream ended as quiet, then `over` is true: no input has more bytes that its port may take.
 abbrev pub LeavesNoInput : Bool → Ending → Type 0
 LeavesNoInput over Quiet = over ≡ true
 LeavesNoInput over Turns = Unit {0}

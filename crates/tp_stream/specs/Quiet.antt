@@ -1,40 +1,28 @@
--- Turns that had nothing to do, and when nothing is left to do in a network.
+-- Turns that had nothing to do, and networks in which nothing is left to do.
 use Rattle.std.specs.Prelude.{◌≡◌, ◌<◌, ◌≤◌, ℕ, ◌+◌, false, true, length, None, Ok, IfSome, IsSome}
-use Rattle.tp_model.specs.NodeState.{NodeState}
-use Rattle.tp_model.specs.Network.{Network}
-use Rattle.tp_model.specs.Node.{node_step}
-use Rattle.tp_model.specs.Topology.{Topology, node_count}
-use Rattle.tp_node.specs.declared.run.Why.{Why}
-use Rattle.tp_node.specs.declared.run.Why.TheVariants.{Full, Idle, NoFrame, Halted as Stopped}
-use Rattle.tp_book.specs.Needs.{has_recorded_in}
-use Rattle.tp_book.specs.Book.{BookValue, count_of_nodes}
-use Rattle.tp_shared.specs.declared.node_turn.NodeTurn.{NodeTurn}
-use Rattle.tp_shared.specs.Holds.{InHand}
-use Rattle.tp_shared.specs.TurnsMade.{HostTurnMade, TurnMade}
-use Rattle.tp_work.specs.declared.turn.Turn.{Turn}
+use Rattle.tp_stream.specs.Lower.{NodeState, Network, node_step, Topology, node_count, Why, Full, Idle, NoFrame, has_recorded_in, BookValue, count_of_nodes, NodeTurn, InHand, HostTurnMade, TurnMade, Turn, Ending, Quiet, Turns, Gone, Halted, AskedTo}
+use Rattle.tp_node.specs.declared.run.Why.TheVariants.{Halted as Stopped}
 use Rattle.tp_stream.specs.declared.task.Task.{Task}
-use Rattle.tp_stream_files.specs.declared.ending.Ending.{Ending}
-use Rattle.tp_stream_files.specs.declared.ending.Ending.TheVariants.{Quiet, Turns, Gone, Halted, Stopped as AskedTo}
 
--- A book of the network, with as many nodes and ports, was seen in which no snapshot runs.
+-- A book of this network was seen in which no snapshot runs. It has as many nodes and ports.
 pub record IsStill (start : Network NodeState) : Type 0 where
   pub seen : BookValue
   pub nodes : length seen.state.start.nodes ≡ length start.nodes
   pub ports : length seen.state.ports ≡ length start.ports
   pub still : has_recorded_in seen.state.snapshot (count_of_nodes seen) ≡ false
 
--- A run made no more steps since there is none. One that lacked a frame has a step left.
+-- A run ended because the node has no step. A node that lacks a frame has a step left.
 abbrev pub HasNoStep : Why → Type 0
 HasNoStep Full = ⊥
 HasNoStep Idle = Unit {0}
 HasNoStep NoFrame = ⊥
 HasNoStep Stopped = Unit {0}
 
--- A worker's turn had nothing to do: it took no token and, if it is a node's, made no step, since there is none.
+-- A worker's turn had nothing to do: it took no token and, if it was a node's, made no step because the node has none.
 abbrev pub HadNoWork : Turn → Type 0
 HadNoWork turn = (turn.takes ≡ 0) × IfSome turn.ran (λ ran. (ran.count ≡ 0) × HasNoStep ran.why)
 
--- A turn of a node took no token and made no step, since the node has no step; it didn't lack a frame.
+-- A turn of this node took no token and made no step because the node has none; it didn't lack a frame.
 pub record NodeRests (start : Network NodeState) (number : ℕ) : Type 0 where
   pub quantum : ℕ
   pub turn : NodeTurn
@@ -51,28 +39,28 @@ pub record HostRests (start : Network NodeState) : Type 0 where
   pub new : InHand
   pub went : HostTurnMade start (Ok 0) old new
 
--- A turn of a process had nothing to do: one of a node; or the host took no token.
+-- A turn of this process had nothing to do: a node's made no step and took no token, the host's took no token.
 pub record HadNothing (start : Network NodeState) (process : ℕ) : Type 0 where
   pub node : process < length start.nodes → NodeRests start process
   pub host : length start.nodes ≤ process → HostRests start
 
--- so while no snapshot ran
+-- a turn of this process had nothing to do, while no snapshot ran
 pub record HadNothingToDo (start : Network NodeState) (process : ℕ) : Type 0 where
   pub had : HadNothing start process
   pub still : IsStill start
 
--- In each of the last `idle` turns the process had nothing to do, while no snapshot ran. Turns go round over the nodes in order and the
--- host, which is the process after them; the next one is that of `whose`.
+-- In each of the last `idle` turns the process had nothing to do, and no snapshot ran. Turns go round over the nodes in order and then the host; the
+-- next turn is that of `whose`.
 pub record HaveRested (start : Network NodeState) (whose idle : ℕ) : Type 0 where
   pub whose_is : whose ≤ length start.nodes
   pub this_round : (p : ℕ) → p < whose → whose ≤ p + idle → HadNothingToDo start p
   pub round_before : (p : ℕ) → p ≤ length start.nodes → whose + length start.nodes + 1 ≤ p + idle → HadNothingToDo start p
 
--- Nothing is left to do: each node and the host had nothing to do in its last turn, while no snapshot ran.
+-- Nothing is left to do: each node and the host had nothing to do in its last turn, and no snapshot ran.
 abbrev pub IsQuietNetwork : Network NodeState → Type 0
 IsQuietNetwork start = (p : ℕ) → p ≤ length start.nodes → HadNothingToDo start p
 
--- A network with the nodes, ports and wires of a topology, in which nothing is left to do.
+-- There is a network with the nodes, ports and wires of this topology in which nothing is left to do.
 pub record IsQuietOf (t : Topology) : Type 0 where
   pub start : Network NodeState
   pub nodes : length start.nodes ≡ node_count t
@@ -82,7 +70,7 @@ pub record IsQuietOf (t : Topology) : Type 0 where
 
 -- ## Why a stream is over
 
--- If it ended as quiet, nothing is left to do in the network of that topology.
+-- If the stream ended as quiet, nothing is left to do in the network of this topology.
 abbrev pub LeavesNothingToDo : Topology → Ending → Type 0
 LeavesNothingToDo t Quiet = IsQuietOf t
 LeavesNothingToDo t Turns = Unit {0}
@@ -90,7 +78,7 @@ LeavesNothingToDo t Gone = Unit {0}
 LeavesNothingToDo t Halted = Unit {0}
 LeavesNothingToDo t AskedTo = Unit {0}
 
--- It was asked to end for this reason; and if it ended as quiet, nothing is left to do.
+-- The task asks the stream to end for this reason. If the stream ended as quiet, nothing is left to do.
 abbrev pub IsWhyEnded : Network NodeState → Task → Ending → Type 0
 IsWhyEnded start task Quiet = (task.until_quiet ≡ true) × IsQuietNetwork start
 IsWhyEnded start task Turns = IsSome task.turns
@@ -98,8 +86,8 @@ IsWhyEnded start task Gone = Unit {0}
 IsWhyEnded start task Halted = task.stop_on_halt ≡ true
 IsWhyEnded start task AskedTo = task.until_asked ≡ true
 
--- It was asked to end for this reason. Without a bound on turns it ends only by quiet, by a halt or by a request to stop, each if that was asked for;
--- or since its ends are gone.
+-- The task asks the stream to end for this reason. It ends as quiet, by a halt or by a request to stop only if the task asks for that, and by a bound
+-- on turns only if there is one. It may always end because someone who takes an output has gone.
 abbrev pub IsAsked : Task → Ending → Type 0
 IsAsked task Quiet = task.until_quiet ≡ true
 IsAsked task Turns = IsSome task.turns

@@ -1,33 +1,25 @@
--- If ports are as a device is opened, and which outputs may begin there.
+-- How far ports have come when a device opens, and which outputs and inputs may begin there.
 use Rattle.std.specs.Prelude.{◌≡◌, ◌⊎◌, ◌<◌, ◌≤◌, ℕ, ◌+◌, List, length, get_or, Some, slice_get}
-use Rattle.std.specs.Option.{unwrap_or}
-use Rattle.tp_model.specs.Network.{Port}
-use Rattle.tp_model.specs.Opening.{Opened}
-use Rattle.tp_book.specs.Ports.{fresh_value}
-use Rattle.tp_book.specs.Book.{BookValue}
-use Rattle.tp_book.specs.Host.{accepted_of, port_in, shown_upto_of}
+use Rattle.tp_stream.specs.Lower.{unwrap_or, Port, Opened, fresh_value, BookValue, accepted_of, port_in, shown_upto_of, HasAtMost, HasLength, HasReach, Reaches, GivenInput, HasAtLeast, IsLength, Given}
 use Rattle.tp_stream.specs.declared.fault.StreamFault.{StreamFault}
 use Rattle.tp_stream.specs.declared.fault.StreamFault.TheVariants.{Opening, Spare, Port as Absent, Unnamed, Short, Long, Gone, NotShown, ShortInput, InputFailed, OutputFailed, FlushFailed, NotStored, JournalFull, Memory}
 use Rattle.tp_stream.specs.declared.standing.Standing.{Standing}
-use Rattle.tp_stream_files.specs.Held.{HasAtMost, HasLength, HasReach, Reaches}
-use Rattle.tp_stream_files.specs.Inputs.{GivenInput, HasAtLeast, IsLength}
-use Rattle.tp_stream_files.specs.Outputs.{Given}
 
--- how many outputs a port has put out in all, those that were confirmed among them
+-- how many outputs a port has put out in all, including those that were confirmed
 abbrev pub put_out : Port → ℕ
 put_out port = port.out_base + length port.outputs
 
--- where a port of a book is, as a mark shows it
+-- how far a port of a book has come, by this mark
 abbrev pub port_standing : BookValue → ℕ → ℕ → Standing
 port_standing b mark p = record { confirmed = (port_in b p).out_base; shown = shown_upto_of b p mark; upto = put_out (port_in b p) }
 
--- where a port is of a device that opens: all that it has put out is shown
+-- how far a port has come when a device opens: all that it has put out is shown
 abbrev pub stands_opened : Opened → ℕ → Standing
 stands_opened o p =
     let port = get_or o.now.ports p fresh_value.port in
     record { confirmed = port.out_base; shown = put_out port; upto = put_out port }
 
--- up to where the reader of an output has it: if it says nothing, up to where it is confirmed
+-- up to which position the reader of an output has it: as it says, or else up to the confirmed ones
 abbrev pub from_of : Standing → Given → ℕ
 from_of s g = unwrap_or g.have s.confirmed
 
@@ -36,13 +28,13 @@ pub record IsReadUpTo (s : Standing) (from : ℕ) : Type 0 where
   pub confirmed : s.confirmed ≤ from
   pub shown : from ≤ s.shown
 
--- An output may begin: its sink has the bytes that its reader has, safe, and none that the port didn't put out.
+-- An output may begin: its sink safely has the bytes that its reader has, and none that the port didn't put out.
 pub record MayBegin (s : Standing) (g : Given) : Type 0 where
   pub reader : IsReadUpTo s (from_of s g)
   pub front : Reaches (from_of s g) g.held
   pub behind : HasAtMost s.upto g.held
 
--- Why an output may not begin: what comes first of these.
+-- Why an output may not begin: the first of these faults.
 abbrev pub Refuses : Standing → Given → StreamFault → Type 0
 Refuses s g (Opening unopened) = ⊥
 Refuses s g Spare = ⊥
@@ -60,7 +52,7 @@ Refuses s g NotStored = ⊥
 Refuses s g JournalFull = ⊥
 Refuses s g Memory = ⊥
 
--- Each of the first `n` outputs may begin where its port is.
+-- Each of the first `n` outputs may begin at the position of its port.
 abbrev pub MayBeginBelow : ℕ → (ℕ → Standing) → List Given → Type 0
 MayBeginBelow n stands gs = (k : ℕ) → k < n → (g : Given) → slice_get gs k ≡ Some g → MayBegin (stands g.port) g
 
@@ -68,7 +60,7 @@ MayBeginBelow n stands gs = (k : ℕ) → k < n → (g : Given) → slice_get gs
 abbrev pub AllMayBegin : (ℕ → Standing) → List Given → Type 0
 AllMayBegin stands gs = (k : ℕ) (g : Given) → slice_get gs k ≡ Some g → MayBegin (stands g.port) g
 
--- The first output that may not begin, and why: as its port is; or it is none of `ports` ports.
+-- The first output that may not begin, and why: how far its port has come, or that there is no such port.
 pub record IsFirstRefused (ports : ℕ) (stands : ℕ → Standing) (gs : List Given) (fault : StreamFault) : Type 0 where
   pub at : ℕ
   pub given : Given
@@ -78,7 +70,7 @@ pub record IsFirstRefused (ports : ℕ) (stands : ℕ → Standing) (gs : List G
 
 -- ## Inputs
 
--- how many bytes a port of a book has accepted, and how many one of a device that opens
+-- how many bytes a port of a book has accepted
 abbrev pub accepted_at : BookValue → ℕ → ℕ
 accepted_at b p = accepted_of (port_in b p)
 
@@ -103,15 +95,15 @@ RefusesInput n g NotStored = ⊥
 RefusesInput n g JournalFull = ⊥
 RefusesInput n g Memory = ⊥
 
--- Each of the first `n` inputs has all that its port has accepted.
+-- Each of the first `n` inputs has all bytes that its port has accepted.
 abbrev pub HaveAcceptedBelow : ℕ → (ℕ → ℕ) → List GivenInput → Type 0
 HaveAcceptedBelow n accepted_at gs = (k : ℕ) → k < n → (g : GivenInput) → slice_get gs k ≡ Some g → HasAtLeast (accepted_at g.port) g.all
 
--- Each input has all that its port has accepted.
+-- Each input has all bytes that its port has accepted.
 abbrev pub AllHaveAccepted : (ℕ → ℕ) → List GivenInput → Type 0
 AllHaveAccepted accepted_at gs = (k : ℕ) (g : GivenInput) → slice_get gs k ≡ Some g → HasAtLeast (accepted_at g.port) g.all
 
--- The first input that may not begin, and why: as its port is; or it is none of `ports` ports.
+-- The first input that may not begin, and why: how much its port has accepted, or that there is no such port.
 pub record IsFirstShort (ports : ℕ) (accepted_at : ℕ → ℕ) (gs : List GivenInput) (fault : StreamFault) : Type 0 where
   pub at : ℕ
   pub given : GivenInput
@@ -119,11 +111,11 @@ pub record IsFirstShort (ports : ℕ) (accepted_at : ℕ → ℕ) (gs : List Giv
   pub before : HaveAcceptedBelow at accepted_at gs
   pub why : RefusesInput (accepted_at given.port) given fault ⊎ ((fault ≡ Absent given.port) × (ports ≤ given.port))
 
--- Why nothing is begun: an output that may not; or, if each output may, an input that may not.
+-- Why a stream doesn't begin: an output may not; or each output may, but an input may not.
 abbrev pub IsNotBegun : ℕ → (ℕ → Standing) → (ℕ → ℕ) → List Given → List GivenInput → StreamFault → Type 0
 IsNotBegun ports stands accepted_at gs inputs fault = IsFirstRefused ports stands gs fault ⊎ (AllMayBegin stands gs × IsFirstShort ports accepted_at inputs fault)
 
--- A fault of an input says so.
+-- If the fault is one of an input, `P` is true.
 abbrev pub OfInput : StreamFault → Type 0 → Type 0
 OfInput (Opening unopened) P = Unit {0}
 OfInput Spare P = Unit {0}
@@ -141,7 +133,7 @@ OfInput NotStored P = Unit {0}
 OfInput JournalFull P = Unit {0}
 OfInput Memory P = Unit {0}
 
--- A fault of an output says so.
+-- If the fault is one of an output, `P` is true.
 abbrev pub OfOutput : StreamFault → Type 0 → Type 0
 OfOutput (Opening unopened) P = Unit {0}
 OfOutput Spare P = Unit {0}

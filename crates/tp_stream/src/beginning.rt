@@ -1,10 +1,7 @@
 //! What is tested before a stream begins.
 
 ghost use Rattle.std.specs.Prelude.{◌≡◌, ◌++◌, length, map, IfNone, IfSome, OnOk, IfErr};
-ghost use Rattle.tp_book.specs.Counted.{AreCounted};
-ghost use Rattle.tp_stream_files.specs.Inputs.{given_input};
-ghost use Rattle.tp_stream_files.specs.Notices.{Noticed};
-ghost use Rattle.tp_stream_files.specs.Outputs.{OutputValue, given_of};
+ghost use Rattle.tp_stream.specs.Lower.{AreCounted, given_input, Noticed, OutputValue, given_of};
 ghost use Rattle.tp_stream.specs.Fitting.{AllNamed, Fits, IsFirstUnnamed, Unfit, absent_of, first_past, has_sink, lacks_pages, port_has_wire};
 ghost use Rattle.tp_stream.specs.Put.{EachWith};
 ghost use Rattle.tp_stream.specs.Standing.{AllHaveAccepted, AllMayBegin, IsFirstRefused, IsFirstShort, IsNotBegun, OfInput, OfOutput, accepted_at, port_standing};
@@ -54,7 +51,7 @@ fn has_sink<S: Sink>(outputs: &[Output<S>], port: u8) -> bool
     false
 }
 
-/// The first port with a wire for which there is no sink.
+/// Gives the first port with a wire for which there is no sink; `None` if there is none.
 fn unnamed<S: Sink>(topology: &Topology, outputs: &[Output<S>]) -> Option<u8>
     ensures some { IfSome result (IsFirstUnnamed topology.now outputs.now) }
     ensures none { IfNone result (AllNamed topology.now outputs.now) }
@@ -67,7 +64,7 @@ fn unnamed<S: Sink>(topology: &Topology, outputs: &[Output<S>]) -> Option<u8>
     None
 }
 
-/// The first output whose port isn't one of `ports`.
+/// Gives the port of the first output whose port isn't one of `ports` ports; `None` if there is none.
 fn absent_output<S: Sink>(ports: usize, outputs: &[Output<S>]) -> Option<u8>
     ensures { result ≡ first_past ports (map (λ (o : OutputValue). o.port) outputs.now) }
 {
@@ -79,7 +76,7 @@ fn absent_output<S: Sink>(ports: usize, outputs: &[Output<S>]) -> Option<u8>
     None
 }
 
-/// The first input whose port isn't one of `ports`.
+/// Gives the port of the first input whose port isn't one of `ports` ports; `None` if there is none.
 fn absent_input<I: Source>(ports: usize, inputs: &[Input<I>]) -> Option<u8>
     ensures { result ≡ first_past ports (map (λ i. i.port) inputs.now) }
 {
@@ -91,7 +88,7 @@ fn absent_input<I: Source>(ports: usize, inputs: &[Input<I>]) -> Option<u8>
     None
 }
 
-/// The first port that doesn't exist though a sink is for it; if there is none, the first of a source.
+/// Gives the first port that doesn't exist though a sink is for it; if there is none, the first that doesn't exist though a source is for it.
 fn absent<S: Sink, I: Source>(topology: &Topology, streams: &Streams<S, I>) -> Option<u8>
     ensures { result ≡ absent_of topology.now streams.now.outputs.items (map (λ i. i.port) streams.now.inputs.items) }
 {
@@ -102,7 +99,7 @@ fn absent<S: Sink, I: Source>(topology: &Topology, streams: &Streams<S, I>) -> O
     }
 }
 
-/// Why a network isn't run as `task` says on `streams`, if it isn't.
+/// Gives why a network isn't run as `task` says on `streams`; `None` if it is.
 pub(crate) fn task_fault<S: Sink, I: Source>(
     task: Task,
     topology: &Topology,
@@ -125,8 +122,8 @@ pub(crate) fn task_fault<S: Sink, I: Source>(
     }
 }
 
-/// Sets out each sink at the position of its port in the book of a device that opened, and tells where each output begins. It ends at the first one
-/// that may not begin.
+/// Sets out each output at the position of its port in the book of a device that opened, and tells the listener where each begins. Fails at the first
+/// output that may not begin, and says why.
 fn begin_outputs<S: Sink, L: Listener>(
     book: &Book,
     mark: u64,
@@ -152,7 +149,8 @@ fn begin_outputs<S: Sink, L: Listener>(
     Ok(())
 }
 
-/// Tells how much of its input each source's port has accepted. The first one that has fewer bytes ends that.
+/// Tells the listener how much of its input each source's port has accepted. Fails with `ShortInput` at the first source that has fewer bytes, and
+/// with `Port` at one whose port doesn't exist.
 fn begin_inputs<I: Source, L: Listener>(
     book: &Book,
     inputs: &[Input<I>],
@@ -180,7 +178,8 @@ fn begin_inputs<I: Source, L: Listener>(
     Ok(())
 }
 
-/// Sets out each sink at the position of its port in the book of a device that opened, and tells where each stream begins.
+/// Sets out each output at the position of its port in the book of a device that opened, and tells the listener where each output and each input
+/// begins. Fails as the first output fails that may not begin, or else the first such input.
 pub(crate) fn begin_all<S: Sink, I: Source, L: Listener>(
     book: &Book,
     mark: u64,

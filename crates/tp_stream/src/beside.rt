@@ -1,9 +1,8 @@
-//! Workers, and the flusher beside them.
+//! Workers, and the flusher's turns while they work.
 
 ghost use Rattle.std.specs.Prelude.{◌≡◌, ◌≤◌, ◌*◌, ◌-◌, ◌^◌, min, All, Some, None, IfOk, IfErr, IfSome};
-ghost use Rattle.tp_model.specs.WriteOrder.{Resting};
-ghost use Rattle.tp_flush.specs.Known.{Began};
-ghost use Rattle.tp_flush.specs.Flushing.{IsSameProcess, Walked};
+ghost use Rattle.tp_stream.specs.Lower.{Resting, Began, IsSameProcess, Walked};
+ghost use Rattle.tp_stream.specs.FailedEnds.{NamesNoEnd};
 ghost use Rattle.tp_stream.specs.Failures.{FailedWhere, answer_failed};
 ghost use Rattle.tp_stream.specs.Outcomes.{shift_outcome};
 ghost use Rattle.tp_stream.specs.Rooms.{free_of};
@@ -28,8 +27,8 @@ use tp_shared::{Locked, Naming, NoGate, Shared};
 use tp_stream_files::Ending;
 use tp_work::{Net, Seat};
 
-/// How many turns a shift has at most for each of its workers: as many as a round has without workers, so that the ports wait for a shift about as
-/// long as for a round.
+/// How many turns a shift has at most for each of its workers. A round without workers has as many, so that ports wait for a shift about as long as
+/// for a round.
 const SHIFT: u64 = 1024;
 
 /// Makes a turn that was drawn in this shift.
@@ -55,7 +54,7 @@ fn work<J: Naming, R: Wait>(rt: &R, net: &Net<J, NoGate>, shift: &Shift, seat: &
     }
 }
 
-/// Makes turns in each shift, until no more will be opened.
+/// Makes turns in each shift, until no more shifts will be opened.
 fn stay<J: Naming, R: Wait>(rt: &R, net: &Net<J, NoGate>, shift: &Shift, seat: &mut Seat<J>)
     requires queue { seat.old.hand.of ≡ Some net.now.queue }
     ensures queue { seat.new.hand.of ≡ Some net.now.queue }
@@ -73,8 +72,8 @@ fn stay<J: Naming, R: Wait>(rt: &R, net: &Net<J, NoGate>, shift: &Shift, seat: &
     }
 }
 
-/// Lets a worker at each seat make turns in each shift, until no more are opened, each in a thread of its own if one can be made. A worker without a
-/// thread comes only then, so no shift is opened for it.
+/// Lets a worker at each seat make turns in each shift, until no more shifts are opened. Each has a thread of its own if one can be made. A worker
+/// without a thread only begins once no more shifts are opened, so it makes no turns.
 fn work_all<J: Naming + Send + Sync, R: Threads + Wait + Sync>(
     rt: &R,
     net: &Net<J, NoGate>,
@@ -96,8 +95,8 @@ fn work_all<J: Naming + Send + Sync, R: Threads + Wait + Sync>(
     );
 }
 
-/// Does work in this thread while a worker at each seat stays, in threads of their own if some can be made; else they come after it. In the end the
-/// work has to say that no more shifts are opened.
+/// Does `work` in this thread while a worker at each seat stays in a thread of its own. Workers without a thread come after the work. In the end the
+/// work must say that no more shifts are opened.
 #[inline(never)]
 pub(crate) fn go_with_workers<
     J: Naming + Send + Sync,
@@ -125,7 +124,7 @@ pub(crate) fn go_with_workers<
     back
 }
 
-/// Makes turns until none is left in this shift, or the flusher's is due: as many entries more than `seen` were made as fill a group.
+/// Makes turns until none is left in this shift or the flusher's turn is due: enough entries beyond `seen` were made to fill a group.
 fn help<J: Naming, R: Wait>(
     rt: &R,
     net: &Net<J, NoGate>,
@@ -144,7 +143,7 @@ fn help<J: Naming, R: Wait>(
     }
 }
 
-/// Makes turns of this shift, if there is a seat for them.
+/// Makes turns of this shift as `help` does, if there is a seat for them.
 fn help_seated<J: Naming, R: Wait>(
     rt: &R,
     net: &Net<J, NoGate>,
@@ -160,8 +159,8 @@ fn help_seated<J: Naming, R: Wait>(
     }
 }
 
-/// Makes the flusher's turns while workers make theirs, each once something was journalled beyond the `before` entries, until the shift has ended; a
-/// refused one ends it. Between two of them it makes turns, if there is a seat for that.
+/// Makes the flusher's turns while workers make theirs, until the shift has ended. Each comes once something was journalled beyond the `before`
+/// entries. Between two of them it makes turns of the shift, if there is a seat for that. A flusher's turn that fails ends the shift.
 fn flush_beside<J: Naming, D: Disk, R: Wait>(
     rt: &R,
     alloc: Global,
@@ -194,7 +193,7 @@ fn flush_beside<J: Naming, D: Disk, R: Wait>(
     Ok(())
 }
 
-/// How many turns the journal has room for, and for a confirm a port after them, under the book's lock: at most `most`.
+/// How many turns the journal has room for, together with one confirm for each port after them; at most `most`. Under the book's lock.
 fn turns_in<J: Naming>(held: &Locked<J>, pace: Pace, most: u64) -> u64
     ensures room { result * (pace.need - pace.confirms) ≤ free_of pace.rooms.journal held.now.book - pace.confirms }
     ensures most { result ≤ most }
@@ -204,7 +203,7 @@ fn turns_in<J: Naming>(held: &Locked<J>, pace: Pace, most: u64) -> u64
     (free.saturating_sub(u64::from(pace.confirms)) / turn).min(most)
 }
 
-/// How many turns may be made at most in the next shift of `workers`: [`SHIFT`] for each of them, or what is left of the bound, if that is less.
+/// How many turns the next shift of `workers` workers may have: [`SHIFT`] for each of them, but no more than are left of the bound on turns.
 fn most_of(task: Task, turns: &Turns, workers: u64) -> u64
     ensures unbounded { task.turns ≡ None → result ≡ min (SHIFT * workers) (2 ^ 64 - 1) }
     ensures bounded { IfSome task.turns (λ bound. result ≡ min (bound - turns.now.made) (min (SHIFT * workers) (2 ^ 64 - 1))) }
@@ -216,7 +215,7 @@ fn most_of(task: Task, turns: &Turns, workers: u64) -> u64
     }
 }
 
-/// Takes the book's lock, and asks under it for how many turns it has room, at most `most`.
+/// Takes the book's lock, and gives how many turns the journal has room for, at most `most`.
 fn turns_under<J: Naming, R: Wait>(rt: &R, shared: &Shared<J>, pace: Pace, most: u64) -> u64
     ensures { result ≤ most }
 {
@@ -224,7 +223,8 @@ fn turns_under<J: Naming, R: Wait>(rt: &R, shared: &Shared<J>, pace: Pace, most:
     turns_in(&held, pace, most)
 }
 
-/// What comes of a shift: the fault of a flush, or else why turns were refused, which is in `told`.
+/// Gives what a shift answers: the fault of a flush; if no flush failed, the fault in `told`, by which turns were refused; if there is neither,
+/// `None`.
 fn outcome_of(
     flushed: Result<(), StreamFault>,
     told: Result<(), StreamFault>,
@@ -235,6 +235,7 @@ fn outcome_of(
     ensures failed { answer_failed result ≡ answer_failed flushed }
     ensures goes_on { IfOk result (λ ended. ended ≡ None) }
     ensures begun { IfErr result CameBegun }
+    ensures ends { IfErr result NamesNoEnd }
 {
     match flushed {
         Err(fault) => Err(fault),
@@ -245,8 +246,8 @@ fn outcome_of(
     }
 }
 
-/// Workers, who have all come, make turns, and the flusher makes its own beside them. It ends when the journal may have no room for one more, all
-/// turns of the shift were made, or nothing is left to do.
+/// Opens a shift once all workers have come: they make turns, and the flusher makes its own meanwhile. The shift ends when the journal may have no
+/// room for one more turn, when all its turns were made, or when nothing is left to do.
 pub(crate) fn go_beside<J: Naming, D: Disk, R: Wait>(
     ground: Ground<'_, J, R>,
     shift: &Shift,
@@ -263,6 +264,7 @@ pub(crate) fn go_beside<J: Naming, D: Disk, R: Wait>(
     ensures goes_on { IfOk result (λ ended. ended ≡ None) }
     ensures failures { flusher.old.world.at ≡ Resting → FailedWhere (answer_failed result) flusher.old flusher.new }
     ensures begun { IfErr result CameBegun }
+    ensures ends { IfErr result NamesNoEnd }
 {
     let Ground {
         rt,

@@ -1,17 +1,21 @@
-//! Workers that stay from shift to shift, and sleep in between.
+//! Workers that stay from one shift to the next, and sleep in between.
 
 use std::sync::Wait;
 use std::sync::atomic::{AtomicBool, AtomicU64, Ordering};
 use std::time::Duration;
 
-/// How many milliseconds it sleeps, at most, between two checks whether all have come.
+/// How many milliseconds the stream sleeps at most between two checks whether all workers have come.
 const SLEEP: u64 = 10;
 
-/// How often it looks, at most, as it waits for them.
+/// How often it checks that at most.
 const LOOKS: u32 = 100;
 
-/// The workers of a stream: how many have come, and whether the stream has waited for them; how many are in the open shift; how many shifts were
-/// opened, on which they sleep; and whether no more will be.
+/// The workers of a stream:
+/// - `here`: how many have come
+/// - `was_awaited`: whether the stream has waited for them
+/// - `inside`: how many are in the open shift
+/// - `opened`: how many shifts were opened; workers sleep on this number
+/// - `is_dismissed`: whether no more shifts will be opened
 #[derive(Drop)]
 pub(crate) struct Crew {
     here: AtomicU64,
@@ -22,7 +26,7 @@ pub(crate) struct Crew {
 }
 
 impl Crew {
-    /// None has come.
+    /// Begins with no worker.
     pub(crate) fn new() -> Crew {
         Crew {
             here: AtomicU64::new(0),
@@ -33,14 +37,13 @@ impl Crew {
         }
     }
 
-    /// A worker comes.
+    /// Tells that a worker has come.
     pub(crate) fn come(&self) {
         self.here.fetch_add(1, Ordering::SeqCst);
         self.here.wake_all();
     }
 
-    /// Whether `count` workers have come. It waits for them the first time that it is asked, a second at most: if no more threads could be
-    /// made, some never come.
+    /// Whether `count` workers have come. The first call waits for them, up to a second, since some never come if no more threads could be made.
     pub(crate) fn are_here<R: Wait>(&self, rt: &R, count: u64) -> bool {
         let looks = if self.was_awaited.swap(true, Ordering::SeqCst) {
             0
@@ -61,19 +64,19 @@ impl Crew {
         self.here.load(Ordering::SeqCst) >= count
     }
 
-    /// A shift is opened: wakes all that sleep.
+    /// Tells that a shift is opened, and wakes all workers that sleep.
     pub(crate) fn call(&self) {
         self.opened.fetch_add(1, Ordering::SeqCst);
         self.opened.wake_all();
     }
 
-    /// No more shifts are opened: all that sleep wake, and go.
+    /// Tells that no more shifts are opened, and wakes all workers that sleep, so that they end.
     pub(crate) fn dismiss(&self) {
         self.is_dismissed.store(true, Ordering::SeqCst);
         self.call();
     }
 
-    /// Waits until more shifts were opened than the `seen` ones, and answers how many were; `None` once no more will be.
+    /// Waits until more than `seen` shifts were opened, and answers how many were; `None` once no more will be.
     pub(crate) fn wait<R: Wait>(&self, rt: &R, seen: u64) -> Option<u64> {
         for _ in rt.forever() {
             let opened = self.opened.load(Ordering::SeqCst);
@@ -88,17 +91,17 @@ impl Crew {
         None
     }
 
-    /// A worker is in the shift that is open.
+    /// Tells that a worker enters the open shift.
     pub(crate) fn enter(&self) {
         self.inside.fetch_add(1, Ordering::SeqCst);
     }
 
-    /// A worker is in it no more. Answers whether no other one is.
+    /// Tells that a worker leaves the shift. Answers whether it was the last one in it.
     pub(crate) fn leave(&self) -> bool {
         self.inside.fetch_sub(1, Ordering::SeqCst) == 1
     }
 
-    /// Whether no worker is in it.
+    /// Whether no worker is in the shift.
     pub(crate) fn is_out(&self) -> bool {
         self.inside.load(Ordering::SeqCst) == 0
     }

@@ -1,8 +1,7 @@
 //! When a stream is over.
 
-ghost use Rattle.std.specs.List.{list_all};
 ghost use Rattle.std.specs.Prelude.{◌≡◌, ◌++◌, ◌&&◌, ◌||◌, not, true, nat_lt, IfSome};
-ghost use Rattle.tp_stream_files.specs.Inputs.{is_over};
+ghost use Rattle.tp_stream.specs.Lower.{list_all, is_over};
 ghost use Rattle.tp_stream.specs.Endings.{IsEnding, ending_of, is_bound_reached};
 ghost use Rattle.tp_stream.specs.Looks.{is_stopped, looked};
 
@@ -11,7 +10,7 @@ use crate::task::Task;
 use crate::turns::Turns;
 use tp_stream_files::{Ending, Input, Source, Stop};
 
-/// Whether nothing is left of each input that its port may take.
+/// Whether each input has no more bytes that its port may take.
 pub(crate) fn are_over<I: Source>(inputs: &[Input<I>]) -> bool
     ensures { result ≡ list_all (λ i. is_over i.ended i.is_blocked) inputs.now }
 {
@@ -23,14 +22,14 @@ pub(crate) fn are_over<I: Source>(inputs: &[Input<I>]) -> bool
     true
 }
 
-/// Whether a step of an input may wait: another turn may be made, nothing is left to do, and the stream doesn't rest meanwhile.
+/// Whether a step of an input may wait. It may if another turn may be made, nothing is left to do, and the stream has nothing else to do meanwhile.
 pub(crate) fn may_wait(task: Task, turns: &Turns, nodes: u8) -> bool
     ensures { result ≡ (not (task.until_asked || task.tells) && not (is_bound_reached task turns.now) && not (task.stop_on_halt && turns.now.has_halted) && nat_lt nodes turns.now.idle) }
 {
     !task.rests() && !turns.are_out(task) && !turns.is_stopped(task) && turns.is_quiet(nodes)
 }
 
-/// Whether the stream is asked to stop: it checks once if that is to end it, and else not at all.
+/// Whether the stream is asked to stop. It checks once if the task says so, else it doesn't check.
 pub(crate) fn is_asked<P: Stop>(task: Task, stop: &mut P) -> bool
     ensures looked { P.answers stop.new ≡ P.answers stop.old ++ looked task result }
     ensures asked { result ≡ true → task.until_asked ≡ true }
@@ -38,8 +37,8 @@ pub(crate) fn is_asked<P: Stop>(task: Task, stop: &mut P) -> bool
     task.until_asked && stop.is_asked()
 }
 
-/// Why the stream is over, if it is: as its turns are, and what the steps of its streams came to after them. `asked` says whether it
-/// is asked to stop, which comes first, and `over` whether no input is left that its port may take.
+/// Gives why the stream is over; `None` if it goes on. `pumped` is what the steps of its streams came to after the turns. `asked` says whether it was
+/// asked to stop, which comes before all other reasons, and `over` whether no input is left that its port may take.
 pub(crate) fn ending(
     task: Task,
     turns: &Turns,

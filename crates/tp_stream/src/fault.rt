@@ -4,7 +4,7 @@ use std::error::Error;
 use std::fmt;
 use tp_recover::Unopened;
 
-/// Each of the first nine leaves the device as it is, and nothing was put.
+/// After each of the first nine, the device is as it was, and nothing was put into a sink.
 #[derive(Clone, Copy, PartialEq, Eq)]
 pub enum StreamFault {
     /// The device isn't opened.
@@ -13,31 +13,31 @@ pub enum StreamFault {
     Spare,
     /// A sink or a source is for a port that doesn't exist.
     Port(u8),
-    /// This port has a wire, and no sink is for it.
+    /// No sink is for this port, though it has a wire.
     Unnamed(u8),
-    /// A sink has fewer bytes than are to be before the next one.
+    /// A sink has fewer bytes than come before the next one to put.
     Short { port: u8, has: u64, from: u64 },
-    /// A sink has more bytes than the port has put out: those after are another's.
+    /// A sink has more bytes than the port has put out. Those at the end aren't the port's.
     Long { port: u8, has: u64, upto: u64 },
-    /// A reader has fewer outputs than were confirmed: those between are gone.
+    /// A reader has fewer outputs than were confirmed. Those between are gone.
     Gone { port: u8, have: u64, confirmed: u64 },
     /// A reader says that it has more outputs than are shown.
     NotShown { port: u8, have: u64, shown: u64 },
-    /// An input has fewer bytes than its port has accepted: it isn't the port's.
+    /// An input has fewer bytes than its port has accepted, so it isn't the port's input.
     ShortInput { port: u8, has: u64, accepted: u64 },
     /// The input of a port can't be read.
     InputFailed(u8),
-    /// The output of a port can't be put, or not be made safe. It isn't confirmed.
+    /// The output of a port can't be put into its sink, or can't be made safe there. It isn't confirmed.
     OutputFailed(u8),
-    /// A call of the device failed in a flush. None was made since.
+    /// A call of the device failed in a flush. No call was made after it.
     FlushFailed,
-    /// The book or the area takes no entries, or the book has some that a flush hasn't stored, though no call of the device failed in a flush; or,
-    /// after the last flush, an output is left that was to be put. A flush that fails is told first, and the last one comes after all turns and
-    /// steps. So none of that occurs; no clause says this.
+    /// The book or the area takes no entries, though no call of the device failed in a flush. Or, after the last flush, an entry isn't stored, or an
+    /// output is left that the stream had to put. None of that occurs: a failed flush is told first, and the last flush comes after all turns and
+    /// steps. No clause says this.
     NotStored,
-    /// There is no room on the device, and no checkpoint frees any.
+    /// The journal has no room, and no checkpoint makes any.
     JournalFull,
-    /// Out of memory, at whatever step.
+    /// Out of memory, at any step.
     Memory,
 }
 

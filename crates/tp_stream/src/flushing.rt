@@ -1,9 +1,7 @@
 //! Flushes of a stream.
 
 ghost use Rattle.std.specs.Prelude.{◌≡◌, ◌≤◌, false, length, IfOk, IfErr};
-ghost use Rattle.tp_model.specs.WriteOrder.{Resting};
-ghost use Rattle.tp_flush.specs.Known.{Began};
-ghost use Rattle.tp_flush.specs.Flushing.{IsSameProcess, Walked};
+ghost use Rattle.tp_stream.specs.Lower.{Resting, Began, IsSameProcess, Walked};
 ghost use Rattle.tp_stream.specs.Failures.{FailedWhere, answer_failed, flushing_fault};
 ghost use Rattle.tp_stream.specs.Put.{EndsPut};
 ghost use Rattle.tp_stream.specs.Streamed.{CameOfFlush};
@@ -17,7 +15,7 @@ use tp_flush::{FlushFault, Flusher};
 use tp_shared::{Locked, Naming, Shared};
 use tp_stream_files::{Ending, Output, Sink};
 
-/// The fault of a flusher's turn.
+/// Gives the stream's fault for a fault of the flusher's turn.
 fn fault_in(fault: FlushFault) -> StreamFault
     ensures value { result ≡ flushing_fault fault }
     ensures begun { CameOfFlush result }
@@ -29,7 +27,7 @@ fn fault_in(fault: FlushFault) -> StreamFault
     }
 }
 
-/// A flush. Answers the mark.
+/// Flushes once. Answers the mark.
 pub(crate) fn flush<J: Naming, D: Disk, R: Wait>(
     rt: &R,
     alloc: Global,
@@ -48,8 +46,8 @@ pub(crate) fn flush<J: Naming, D: Disk, R: Wait>(
     }
 }
 
-/// The number that the next entry gets, under the book's lock. It answers it if the flusher has stored all entries below, its journal has no more,
-/// and no output is left that a stream which ends for this reason has to put.
+/// Gives the number that the next entry gets, under the book's lock. Fails with `NotStored` unless the flusher has stored all entries below that
+/// number, and no output is left that a stream has to put if it ends as `why` says. Its journal then has no more entries.
 fn last_under<J: Naming, D: Disk, S: Sink>(
     held: &mut Locked<J>,
     flusher: &mut Flusher<J, D>,
@@ -75,7 +73,7 @@ fn last_under<J: Naming, D: Disk, S: Sink>(
     Ok(next)
 }
 
-/// Takes the book's lock, and asks for that number under it.
+/// Takes the book's lock, and gives that number as `last_under` does.
 fn last_of<J: Naming, D: Disk, S: Sink, R: Wait>(
     rt: &R,
     shared: &Shared<J>,
@@ -95,8 +93,8 @@ fn last_of<J: Naming, D: Disk, S: Sink, R: Wait>(
     last_under(&mut held, flusher, why, outputs)
 }
 
-/// Makes the last flush. Answers the number that the next entry gets: all below is stored, the journal has no more, and no output is left that a
-/// stream which ends for this reason has to put.
+/// Makes the last flush. Answers the number that the next entry gets. All entries below it are then stored, the flusher's journal has no more, and no
+/// output is left that a stream has to put if it ends as `why` says. Fails with `NotStored` if that isn't so, or as the flush fails.
 pub(crate) fn finish<J: Naming, D: Disk, S: Sink, R: Wait>(
     rt: &R,
     alloc: Global,

@@ -1,12 +1,12 @@
-//! What the laps of a stream are on.
+//! What each lap of a stream needs.
 
 use crate::pace::Pace;
 use std::alloc::{AllocError, Global};
 use tp_shared::{Naming, NoGate};
 use tp_work::Net;
 
-/// What each lap of a stream needs: what it asks the system with, where memory comes from, the network that its threads share, and how turns are
-/// made.
+/// What each lap of a stream needs: the runtime for its system calls (`rt`), the source of its memory (`alloc`), the network that its threads share
+/// (`net`), and how to make turns (`pace`).
 pub(crate) struct Ground<'r, J: Naming, R> {
     pub(crate) rt: &'r R,
     pub(crate) alloc: Global,

@@ -1,22 +1,19 @@
-//! Steps of a port's input: handed in piece by piece.
+//! Steps of a port's input: its bytes are handed in piece by piece.
 
 ghost use Rattle.std.specs.Prelude.{◌≡◌, ◌⊎◌, ◌<◌, ◌==◌, length, map, true, false, Ok, Some, IfErr, OnErr};
-ghost use Rattle.tp_book.specs.Host.{accepted_of, after_inputs, port_in, room_of};
-ghost use Rattle.tp_model.specs.declared.entry.Entry.TheVariants.{HostIn};
-ghost use Rattle.tp_shared.specs.Gains.{HoldNoted};
+ghost use Rattle.tp_stream.specs.Lower.{accepted_of, after_inputs, port_in, room_of, HostIn, HoldNoted, offer_fault};
 ghost use Rattle.tp_stream.specs.FailedEnds.{NamesInput};
 ghost use Rattle.tp_stream.specs.Offered.{Offered};
 ghost use Rattle.tp_stream.specs.Outcomes.{OfferAnswer};
 ghost use Rattle.tp_stream.specs.Streamed.{CameBetween, CameOfTurns};
-ghost use Rattle.tp_work.specs.Offers.{offer_fault};
 
 use crate::fault::StreamFault;
 use tp_shared::{Locked, Naming, Seat};
 use tp_stream_files::{Input, Source};
 use tp_work::{OfferFault, offer};
 
-/// Hands a port bytes, under the book's lock, if it accepts those at this position. Whether it took them: it takes none that it, or
-/// the journal, has no room for. `seat` gets the slips of their entries.
+/// Hands a port bytes, under the book's lock, if it accepts bytes at this position. Answers whether it took them: it takes none for which it or the
+/// journal has no room. `seat` gets the slips of their entries.
 #[tactic(auto, using(crate::proofs::Offers::offer_taken, crate::proofs::Offers::offer_refused))]
 fn offer_bytes<J: Naming>(
     held: &mut Locked<J>,
@@ -47,8 +44,9 @@ fn offer_bytes<J: Naming>(
     }
 }
 
-/// Hands a port the next bytes of its input, under the book's lock: at most `most`, as many as `piece` has, and as the port has room for. Answers
-/// whether it took some; `seat` gets the slips of their entries. If `most` is 0, it only checks whether the input has come to its end.
+/// Hands a port the next bytes of its input, under the book's lock. It takes at most `most`, and no more than `piece` and the port have room for.
+/// Answers whether it took some; `seat` gets the slips of their entries. If `most` is 0, it only checks whether the input has come to its end. Fails
+/// with `InputFailed` if the source can't be read, or as the book refuses.
 pub(crate) fn step<J: Naming, I: Source>(
     input: &mut Input<I>,
     held: &mut Locked<J>,

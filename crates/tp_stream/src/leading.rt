@@ -1,8 +1,8 @@
-//! The calling thread, beside its workers.
+//! The calling thread, which leads the workers.
 
-ghost use Rattle.std.specs.List.{list_all};
-ghost use Rattle.std.specs.Prelude.{◌≡◌, length, All, Some, IfOk, IfSome};
-ghost use Rattle.tp_stream_files.specs.Inputs.{is_over};
+ghost use Rattle.std.specs.Prelude.{map, ◌≡◌, length, All, IfErr, Some, IfOk, IfSome};
+ghost use Rattle.tp_stream.specs.Lower.{list_all, is_over};
+ghost use Rattle.tp_stream.specs.FailedEnds.{NamesEnd};
 ghost use Rattle.tp_stream.specs.Failures.{answer_failed};
 ghost use Rattle.tp_stream.specs.Looks.{HaveLooked};
 ghost use Rattle.tp_stream.specs.Quiet.{HaveRested};
@@ -69,6 +69,7 @@ impl<
         × ServedAnswer J.start work.ground.pace.task (list_all (λ i. is_over i.ended i.is_blocked) back.2.now.inputs.items) back.5
         × IfOk back.5 (HaveLooked work.ground.pace.task (P.answers work.stop.now) (P.answers back.4.now))
         × ToldLater (length J.start.nodes) (L.told work.listener.now) (L.told back.3.now)
+        × IfErr back.5 (NamesEnd back.2.now.outputs.items (map (λ i. i.port) back.2.now.inputs.items))
         × (back.1.ghost_name ≡ work.flusher.ghost_name)
         × (back.2.ghost_name ≡ work.streams.ghost_name)
         × (back.3.ghost_name ≡ work.listener.ghost_name)
@@ -96,7 +97,7 @@ impl<
     }
 }
 
-/// All laps; beside them, if there is more than one, workers that stay until they end.
+/// Makes all laps in the calling thread. If there is more than one worker, the others stay in threads of their own until the laps end.
 #[inline(never)]
 pub(crate) fn lead<
     J: Naming + Send + Sync,
@@ -121,6 +122,7 @@ pub(crate) fn lead<
     ensures answer { ServedAnswer J.start ground.entry.pace.task (list_all (λ i. is_over i.ended i.is_blocked) streams.new.inputs.items) result.1 }
     ensures looks { IfOk result.1 (HaveLooked ground.entry.pace.task (P.answers stop.old) (P.answers stop.new)) }
     ensures told { ToldLater (length J.start.nodes) (L.told listener.old) (L.told listener.new) }
+    ensures ends { IfErr result.1 (NamesEnd streams.new.outputs.items (map (λ i. i.port) streams.new.inputs.items)) }
 {
     let mut seats = seats;
     let mut seat = seats.pop();

@@ -1,4 +1,4 @@
-//! Whether outputs are left as a stream ends.
+//! Whether outputs are left when a stream ends.
 
 ghost use Rattle.std.specs.Prelude.{◌≡◌, true};
 ghost use Rattle.tp_book.specs.Host.{port_in};
@@ -7,8 +7,8 @@ ghost use Rattle.tp_stream.specs.Put.{are_put, is_put};
 use tp_book::Book;
 use tp_stream_files::{Ending, Output, Sink};
 
-/// Whether, in this book, a port's outputs are confirmed no further than they were put, if a stream ends for this reason. If it ends as quiet or
-/// since all turns were made: whether all that the port has put out was put and confirmed.
+/// Whether, in this book, no more of a port's outputs are confirmed than were put. If the stream ends as quiet, or since all turns were made, also
+/// whether all that the port has put out was put and confirmed.
 #[tactic(auto, using(crate::proofs::Standings::length_outputs))]
 fn is_put<S: Sink>(why: Ending, book: &Book, output: &Output<S>) -> bool
     ensures { result ≡ true → is_put why (port_in book.now output.now.port) output.now.next ≡ true }
@@ -24,7 +24,7 @@ fn is_put<S: Sink>(why: Ending, book: &Book, output: &Output<S>) -> bool
     }
 }
 
-/// Whether that holds for each output.
+/// Whether that is true of each output.
 pub(crate) fn are_put<S: Sink>(why: Ending, book: &Book, outputs: &[Output<S>]) -> bool
     ensures { result ≡ true → are_put why (port_in book.now) outputs.now ≡ true }
 {

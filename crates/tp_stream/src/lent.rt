@@ -1,8 +1,8 @@
-//! Work with all that it was lent for that, which it gives back.
+//! Work that gives back what it was lent.
 
 ghost use Rattle.std.specs.Prelude.{◌≡◌};
 
-/// Work, and what it gives back after it: a closure wouldn't say what it left in what it was lent.
+/// Work that is lent values, and gives them back afterwards. A closure's contract can't say in what state it leaves what it was lent.
 pub(crate) trait Lent {
     type Back;
 
@@ -10,13 +10,13 @@ pub(crate) trait Lent {
 
     ghost gives: { Self → Self.Back → Type 0 };
 
-    /// Does it.
+    /// Does the work, and gives back what it was lent.
     fn go(self) -> Self::Back
         requires { may_begin self }
         ensures { gives self result };
 }
 
-/// Takes back what was lent: what it holds then is what it was left with.
+/// Takes back what was lent: it is in the state in which the work left it.
 pub(crate) fn take_back<T>(lent: &mut T)
     ensures { lent.new ≡ lent.old }
 {}

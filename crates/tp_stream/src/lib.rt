@@ -1,4 +1,4 @@
-//! Streams: a device's network whose ports live on sinks and sources for as long as it runs.
+//! Streams: a device's network runs, and its ports write to sinks and read from sources meanwhile.
 #![tactic(auto)]
 
 mod beginning;

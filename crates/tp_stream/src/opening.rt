@@ -1,15 +1,8 @@
-//! What is made of a device that opened.
+//! What a stream makes of a device that opened.
 
 ghost use Rattle.std.specs.Prelude.{◌≡◌, ◌⊎◌, ◌++◌, IfOk, OnOk, IfErr, Some, length, map};
-ghost use Rattle.tp_model.specs.Journal.{room};
-ghost use Rattle.tp_book.specs.Book.{next_in_book};
-ghost use Rattle.tp_book.specs.Opened.{IsWellOpen, opened_book};
-ghost use Rattle.tp_flush.specs.Made.{IsMadeOf};
-ghost use Rattle.tp_ready.specs.Seen.{unrisen};
+ghost use Rattle.tp_stream.specs.Lower.{room, next_in_book, IsWellOpen, opened_book, IsMadeOf, unrisen, given_input, Noticed, given_of};
 ghost use Rattle.tp_stream.specs.declared.fault.StreamFault.TheVariants.{Memory};
-ghost use Rattle.tp_stream_files.specs.Inputs.{given_input};
-ghost use Rattle.tp_stream_files.specs.Notices.{Noticed};
-ghost use Rattle.tp_stream_files.specs.Outputs.{given_of};
 ghost use Rattle.tp_stream.specs.Put.{EachWith};
 ghost use Rattle.tp_stream.specs.Standing.{AllHaveAccepted, AllMayBegin, IsNotBegun, accepted_opened, stands_opened};
 ghost use Rattle.tp_stream.specs.Steps.{IsSetOut};
@@ -26,8 +19,8 @@ use tp_shared::Parts;
 use tp_stream_files::{Listener, Sink, Source, Streams};
 use tp_work::nodes_of;
 
-/// The parts of an opened book and its nodes, each with `spare` frames, the raiser of their mark, and what the thread that calls keeps of
-/// instructions.
+/// Makes the parts of a network from an opened book and its nodes, the raiser of their mark, and an empty store of known runs for the calling thread.
+/// Each node gets `spare` frames. Fails if memory runs out.
 #[inline(never)]
 fn parts_with(
     alloc: Global,
@@ -47,8 +40,8 @@ fn parts_with(
     Ok((parts, raiser, Runs::new(alloc)?))
 }
 
-/// The book and the nodes of what was opened, the raiser of their mark, and what the calling thread keeps of instructions. Each stream is set out at
-/// the position of its port, and told.
+/// Makes the book and the nodes of an opened device, the raiser of their mark, and an empty store of known runs for the calling thread. Sets out each
+/// stream at the position of its port, and tells the listener. Fails with `Memory`, or as the first stream fails that may not begin.
 #[inline(never)]
 pub(crate) fn parts_of<S: Sink, I: Source, L: Listener>(
     alloc: Global,

@@ -1,13 +1,7 @@
-//! Steps of a port's output: put at its positions, made safe, and then confirmed.
+//! Steps of a port's output: it is put at its position, made safe, and then confirmed.
 
 ghost use Rattle.std.specs.Prelude.{◌≡◌, ◌<◌, ◌≤◌, ◌+◌, ℕ, false, length, IfOk, OnOk, IfErr, OnErr};
-ghost use Rattle.tp_book.specs.Host.{after_confirm, port_in, shown_from, shown_upto_of};
-ghost use Rattle.tp_book.specs.Acts.{confirm_entries};
-ghost use Rattle.tp_book.specs.Refusals.{is_journal_full};
-ghost use Rattle.tp_shared.specs.Gains.{HoldNoted};
-ghost use Rattle.tp_work.specs.Receipts.{IsFor};
-ghost use Rattle.tp_stream_files.specs.Held.{HasPut, KeepsFront};
-ghost use Rattle.tp_stream_files.specs.Outputs.{WasPutSafely, given_of};
+ghost use Rattle.tp_stream.specs.Lower.{after_confirm, port_in, shown_from, shown_upto_of, confirm_entries, is_journal_full, HoldNoted, IsFor, HasPut, KeepsFront, WasPutSafely, given_of};
 ghost use Rattle.tp_stream.specs.FailedEnds.{NamesOutput, StepNames};
 ghost use Rattle.tp_stream.specs.Standing.{MayBegin, Refuses, from_of, put_out, port_standing};
 ghost use Rattle.tp_stream.specs.Streamed.{CameBetween, OtherThanFull};
@@ -23,14 +17,14 @@ use tp_shared::{Locked, Naming, Seat};
 use tp_stream_files::{Output, Sink, SinkFault};
 use tp_work::{ConfirmFault, confirm};
 
-/// Why a step of an output isn't done: whoever takes it has gone, or the stream ends with a fault.
+/// Why a step of an output isn't done: whoever takes the output has gone, or the stream ends with a fault.
 #[derive(Clone, Copy)]
 pub(crate) enum StepFault {
     Gone,
     Fault(StreamFault),
 }
 
-/// Why the step of the output of `port` isn't done, if its sink answered `fault`.
+/// Gives why the step of the output of `port` isn't done, if its sink answered `fault`.
 fn step_fault(fault: SinkFault, port: u8) -> StepFault
     ensures value { result ≡ step_fault_of port fault }
     ensures names { StepNames port result }
@@ -41,7 +35,7 @@ fn step_fault(fault: SinkFault, port: u8) -> StepFault
     }
 }
 
-/// The fault of a confirmation that was refused.
+/// Gives the stream's fault for a confirm that was refused.
 fn fault_of(fault: ConfirmFault) -> StreamFault
     ensures value { result ≡ confirm_fault_of fault }
     ensures begun { CameBetween result }
@@ -55,7 +49,7 @@ fn fault_of(fault: ConfirmFault) -> StreamFault
     }
 }
 
-/// Sets an output out at the position of its port, if it may begin there.
+/// Sets an output out at the position of its port. Fails if it may not begin there, and says why.
 #[tactic(auto, using(tp_stream_files::proofs::StreamEndsSinks::reaches_less))]
 fn set_out<S: Sink>(output: &mut Output<S>, stand: Standing) -> Result<(), StreamFault>
     ensures begun { OnOk result (MayBegin stand (given_of output.old)) }
@@ -96,7 +90,7 @@ fn set_out<S: Sink>(output: &mut Output<S>, stand: Standing) -> Result<(), Strea
     Ok(())
 }
 
-/// Sets it out at the position of its port in a book, as a device is opened whose mark is `mark`. If it may not begin there, the `Err` says why.
+/// Sets an output out at the position of its port in a book, when a device with the mark `mark` opens. Fails if it may not begin there, and says why.
 pub(crate) fn begin<S: Sink>(
     output: &mut Output<S>,
     book: &Book,
@@ -116,7 +110,8 @@ pub(crate) fn begin<S: Sink>(
     set_out(output, stand)
 }
 
-/// Puts, at their positions, all outputs that the flusher's mark shows after those that were put, and makes them safe.
+/// Puts, at their positions, all outputs that the flusher's mark shows after those that were put, and makes them safe. If that fails, the sink's
+/// bytes before them are as they were.
 #[tactic(auto, using(tp_stream_files::proofs::StreamEndsSinks::front_stays))]
 fn put_shown<J: Naming, D: Disk, S: Sink>(
     output: &mut Output<S>,
@@ -147,8 +142,8 @@ fn put_shown<J: Naming, D: Disk, S: Sink>(
     }
 }
 
-/// Journals, under the book's lock, that the host has all outputs that were put. If that is refused, nothing is confirmed. `seat` gets the entry's
-/// slip, if there is one.
+/// Journals, under the book's lock, that the host has all outputs that were put. `seat` gets the entry's slip, if there is one. If the book refuses,
+/// nothing is confirmed.
 fn confirm_put<J: Naming, D: Disk, S: Sink>(
     output: &mut Output<S>,
     held: &mut Locked<J>,
@@ -175,9 +170,9 @@ fn confirm_put<J: Naming, D: Disk, S: Sink>(
     }
 }
 
-/// A step, under the book's lock: puts what the flusher's mark shows and wasn't put, at its positions, makes it safe, and confirms up to there;
-/// `seat` gets the confirm's slip. So what is put and confirmed was put out by entries that the flusher has stored. If putting it or making it safe
-/// fails, or whoever takes it has gone, nothing is confirmed. However it ends, it put all that the mark shows there, or nothing.
+/// Makes a step of an output, under the book's lock. It puts what the flusher's mark shows and wasn't put yet, makes it safe, and confirms it; `seat`
+/// gets the confirm's slip. So the flusher has stored the entries that put out what it puts. If putting or making safe fails, or whoever takes the
+/// output has gone, nothing is confirmed. However it ends, it has put all that the mark shows, or nothing.
 pub(crate) fn step<J: Naming, D: Disk, S: Sink>(
     output: &mut Output<S>,
     held: &mut Locked<J>,

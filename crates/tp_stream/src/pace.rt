@@ -6,8 +6,8 @@ ghost use Rattle.tp_model.specs.declared.limits.TheConstants.{MAX_STEPS};
 use crate::rooms::Rooms;
 use crate::task::Task;
 
-/// How a device's turns are made: as it was asked, after how many entries a snapshot begins, how much room a turn and its confirms need, how many
-/// confirms there are, and how many workers.
+/// How to make a device's turns: the task, and room in the journal (`rooms`). A snapshot begins after `every` entries. A turn and its confirms need
+/// room for `need` entries; the confirms alone need `confirms`. There are `workers` workers.
 #[derive(Clone, Copy)]
 pub(crate) struct Pace {
     pub(crate) task: Task,

@@ -1,16 +1,12 @@
-//! Steps of all streams of a network.
+//! Steps of all outputs and inputs of a network.
 
 ghost use Rattle.std.specs.Prelude.{◌≡◌, ◌<◌, ◌==◌, ◌-◌, ℕ, List, length, map, true, false, Ok, IfOk, IfSome, IfErr, OnErr, if◌then◌else◌};
-ghost use Rattle.tp_area.specs.declared.journal.JournalRoom.{JournalRoom};
-ghost use Rattle.tp_book.specs.Host.{accepted_of, port_in, room_of};
-ghost use Rattle.tp_book.specs.Refusals.{is_journal_full};
-ghost use Rattle.tp_flush.specs.Known.{Began};
+ghost use Rattle.tp_stream.specs.Lower.{JournalRoom, accepted_of, port_in, room_of, is_journal_full, Began, OutputValue};
 ghost use Rattle.tp_stream.specs.FailedEnds.{NamesEnd, NamesInput, NamesOutput};
 ghost use Rattle.tp_stream.specs.Offered.{Offered};
 ghost use Rattle.tp_stream.specs.Outcomes.{AreTakersThere, pumped_then};
 ghost use Rattle.tp_stream.specs.Put.{EachWith};
 ghost use Rattle.tp_stream.specs.Rooms.{IsConfirmed, UnreservedBook, free_of, has_room_for};
-ghost use Rattle.tp_stream_files.specs.Outputs.{OutputValue};
 ghost use Rattle.tp_stream.specs.Steps.{AllStepped, AreLeft, PutsLeft, PutsShown};
 ghost use Rattle.tp_stream.specs.Streamed.{CameBetween, OtherThanFull};
 ghost use Rattle.tp_stream.specs.declared.pumping.Pumped.TheVariants.{Nothing, Moved, Gone};
@@ -25,22 +21,22 @@ use tp_model::limits::MAX_HELD;
 use tp_shared::{Locked, Naming, Seat, Shared};
 use tp_stream_files::{Input, Output, Sink, Source, Streams};
 
-/// How many milliseconds it waits for input before it checks again whether the stream is asked to stop, or tells how far it has come.
+/// How many milliseconds the stream waits for input before it checks again whether it is asked to stop, or tells how far it has come.
 const REST: u64 = 20;
 
-/// What steps of streams came to.
+/// What steps of outputs and inputs came to.
 #[derive(Clone, Copy, PartialEq, Eq)]
 pub(crate) enum Pumped {
-    /// None has moved.
+    /// No output was put, and no port took bytes.
     Nothing,
-    /// More was put, or a port took more.
+    /// Some output was put, or a port took bytes.
     Moved,
     /// Whoever takes an output has gone.
     Gone,
 }
 
 impl Pumped {
-    /// What these steps and the ones after them come to together.
+    /// Joins what these steps and later ones came to.
     fn then(self, more: Pumped) -> Pumped
         ensures value { result ≡ pumped_then self more }
         ensures there { AreTakersThere self → AreTakersThere more → AreTakersThere result }
@@ -52,7 +48,7 @@ impl Pumped {
         }
     }
 
-    /// Whether one has moved.
+    /// Gives `Moved` or `Nothing`.
     fn of(has_moved: bool) -> Pumped
         ensures value { result ≡ (if has_moved then Moved else Nothing) }
         ensures there { AreTakersThere result }
@@ -65,8 +61,8 @@ impl Pumped {
     }
 }
 
-/// Whether the journal has room for a confirm a port, under the book's lock. If the book is in that journal, and no run is reserved, none
-/// of them is then refused as JournalFull.
+/// Whether the journal has room for one confirm of each port, under the book's lock. If it has, and the book is in that journal with no run reserved,
+/// none of these confirms is refused with `JournalFull`.
 fn has_confirms<J: Naming>(held: &Locked<J>, pace: Pace) -> bool
     ensures value { result ≡ has_room_for pace.rooms.journal held.now.book pace.confirms }
     ensures keeps { UnreservedBook pace.rooms.journal held.now.book → result ≡ true → is_journal_full held.now.book pace.confirms ≡ false }
@@ -74,13 +70,13 @@ fn has_confirms<J: Naming>(held: &Locked<J>, pace: Pace) -> bool
     pace.rooms.has_room(held.book(), pace.confirms)
 }
 
-/// Takes the book's lock, and asks under it whether the journal has room for a confirm a port.
+/// Takes the book's lock, and answers whether the journal has room for one confirm of each port.
 pub(crate) fn can_confirm<J: Naming, R: Wait>(rt: &R, shared: &Shared<J>, pace: Pace) -> bool {
     let held = shared.book().lock(rt);
     has_confirms(&held, pace)
 }
 
-/// A step of a port's output, under the book's lock. What is put is shown by the flusher's mark.
+/// Makes a step of a port's output, under the book's lock. It puts what the flusher's mark shows.
 fn step_output<J: Naming, D: Disk, S: Sink>(
     held: &mut Locked<J>,
     seat: &mut Seat<J>,
@@ -105,8 +101,8 @@ fn step_output<J: Naming, D: Disk, S: Sink>(
     }
 }
 
-/// A step of each output, under one hold of the book's lock, also after one whose taker has gone. What is put is shown by the flusher's mark of what
-/// confirms have left of the book. If the journal has room for a confirm an output, none is refused for lack of it.
+/// Makes a step of each output, under one hold of the book's lock. It goes on after an output whose taker has gone. Each step puts what the flusher's
+/// mark shows in the book, after the confirms before it. If the journal has room for one confirm of each output, none fails for lack of it.
 fn step_all<J: Naming, D: Disk, S: Sink>(
     held: &mut Locked<J>,
     seat: &mut Seat<J>,
@@ -125,8 +121,9 @@ fn step_all<J: Naming, D: Disk, S: Sink>(
     Ok(pumped)
 }
 
-/// Steps each output if the flusher has stored all that the book has: what is put are outputs where its journal leads. Else nothing is put before its
-/// next turn. Right after a turn it has stored all, since no other thread makes entries.
+/// Makes a step of each output if the flusher has stored all that the book has. Then all that is put are outputs of their ports in the network to
+/// which the flusher's journal leads. If it hasn't stored all, nothing is put, and the answer is `Moved`. Right after the flusher's turn it has,
+/// since no other thread makes entries.
 #[tactic(auto, using(crate::proofs::Stepping::all_still))]
 fn step_settled<J: Naming, D: Disk, S: Sink>(
     held: &mut Locked<J>,
@@ -150,7 +147,7 @@ fn step_settled<J: Naming, D: Disk, S: Sink>(
     step_all(held, seat, flusher, outputs)
 }
 
-/// Takes the book's lock, and steps each output under it.
+/// Takes the book's lock, and makes a step of each output under it.
 fn step_outputs<J: Naming, D: Disk, S: Sink, R: Wait>(
     rt: &R,
     shared: &Shared<J>,
@@ -168,9 +165,8 @@ fn step_outputs<J: Naming, D: Disk, S: Sink, R: Wait>(
     step_settled(&mut held, seat, flusher, outputs)
 }
 
-/// A step of a port's input, under the book's lock. Whether the port took more: no more than leaves the journal the room that a turn and
-/// the confirms after it need. If it may not wait for bytes that haven't come yet, the port then takes none. Whether the port has room is
-/// noted either way.
+/// Makes a step of a port's input, under the book's lock. Answers whether the port took bytes. It takes only as many as leave the journal room for a
+/// turn and the confirms after it. If bytes haven't come yet and `may_wait` is false, it takes none. Either way it notes whether the port has room.
 fn step_held<J: Naming, I: Source>(
     held: &mut Locked<J>,
     seat: &mut Seat<J>,
@@ -197,7 +193,7 @@ fn step_held<J: Naming, I: Source>(
     crate::input::step(input, held, seat, &mut piece, most)
 }
 
-/// Takes the book's lock, and makes a step of a port's input under it. Whether the port took more.
+/// Takes the book's lock, and makes a step of a port's input under it. Answers whether the port took bytes.
 fn step_input<J: Naming, I: Source, R: Wait>(
     rt: &R,
     shared: &Shared<J>,
@@ -217,8 +213,8 @@ fn step_input<J: Naming, I: Source, R: Wait>(
     step_held(&mut held, seat, pace, may_wait, input)
 }
 
-/// The first input whose bytes haven't come yet for which the journal and its port have room, under the book's lock: its port, and how many that
-/// has accepted.
+/// Finds, under the book's lock, the first input whose bytes haven't come yet while the journal and its port have room for them. Answers its port,
+/// and how many bytes the port has accepted; `None` if there is no such input.
 fn awaited_under<J: Naming, I: Source>(
     held: &Locked<J>,
     pace: Pace,
@@ -245,7 +241,7 @@ fn awaited_under<J: Naming, I: Source>(
     None
 }
 
-/// Takes the book's lock, and looks for that input under it.
+/// Takes the book's lock, and finds that input as `awaited_under` does.
 fn find_awaited<J: Naming, I: Source, R: Wait>(
     rt: &R,
     shared: &Shared<J>,
@@ -256,19 +252,19 @@ fn find_awaited<J: Naming, I: Source, R: Wait>(
     awaited_under(&held, pace, inputs)
 }
 
-/// What a rest came to.
+/// How a rest ended.
 #[derive(Clone, Copy)]
 pub(crate) enum Rested {
-    /// There was none: no input is awaited for which the journal and its port have room, or its bytes have come meanwhile.
+    /// There was no rest: the journal or the ports have no room for input, or its bytes have come already.
     None,
-    /// No byte came.
+    /// No bytes came.
     InVain,
     /// Bytes came, or the input's end.
     Came,
 }
 
-/// Waits for bytes of an input that haven't come yet, for [`REST`] milliseconds or less, if the journal and its port have room for them: they
-/// end the wait as they come. The book's lock is released meanwhile.
+/// Waits up to [`REST`] milliseconds for bytes of an input that haven't come yet, if the journal and its port have room for them. The wait ends when
+/// bytes come. The book's lock is free meanwhile.
 pub(crate) fn rest<J: Naming, I: Source, R: Wait>(
     rt: &R,
     shared: &Shared<J>,
@@ -287,7 +283,7 @@ pub(crate) fn rest<J: Naming, I: Source, R: Wait>(
     rest
 }
 
-/// A step of each input. If it may not wait, a port takes none whose bytes haven't come yet.
+/// Makes a step of each input. If `may_wait` is false, a port whose bytes haven't come yet takes none.
 pub(crate) fn step_inputs<J: Naming, I: Source, R: Wait>(
     rt: &R,
     shared: &Shared<J>,
@@ -309,8 +305,8 @@ pub(crate) fn step_inputs<J: Naming, I: Source, R: Wait>(
     Ok(Pumped::of(has_moved))
 }
 
-/// A step of each input, after what steps of the outputs came to. If none has moved, and it may wait, it waits for input that hasn't come
-/// yet.
+/// Makes a step of each input, after the outputs' steps came to `put`. If nothing has moved and `may_wait` is true, it makes the steps again, and
+/// waits in them for input that hasn't come yet.
 fn pump_inputs<J: Naming, I: Source, R: Wait>(
     rt: &R,
     shared: &Shared<J>,
@@ -321,6 +317,7 @@ fn pump_inputs<J: Naming, I: Source, R: Wait>(
     inputs: &mut [Input<I>],
 ) -> Result<Pumped, StreamFault>
     ensures begun { IfErr result CameBetween }
+    ensures ends { (outputs : List OutputValue) → IfErr result (NamesEnd outputs (map (λ i. i.port) inputs.new)) }
     ensures there { AreTakersThere put → IfOk result AreTakersThere }
 {
     let pumped = put.then(step_inputs(rt, shared, pace, seat, false, inputs)?);
@@ -330,9 +327,9 @@ fn pump_inputs<J: Naming, I: Source, R: Wait>(
     step_inputs(rt, shared, pace, seat, true, inputs)
 }
 
-/// A step of each stream. Outputs are put and confirmed up to the flusher's mark: what is put are outputs where its journal leads. If none has moved,
-/// and it may wait, it waits for input that hasn't come yet. If whoever takes an output has gone, no port takes more. `seat` gets the slips of what
-/// was confirmed and handed in.
+/// Makes a step of each output, and then of each input. Outputs are put and confirmed up to the flusher's mark: they are outputs in the network to
+/// which its journal leads. If nothing has moved and `may_wait` is true, it waits for input that hasn't come yet. If whoever takes an output has
+/// gone, no port takes bytes. `seat` gets the slips of what was confirmed and handed in.
 pub(crate) fn pump<J: Naming, D: Disk, S: Sink, I: Source, R: Wait>(
     rt: &R,
     shared: &Shared<J>,
@@ -346,6 +343,7 @@ pub(crate) fn pump<J: Naming, D: Disk, S: Sink, I: Source, R: Wait>(
     ensures put { D.keeps → Began J.formatted J.before flusher.old.opened
         → AllStepped J.formatted flusher.old flusher.old streams.old.outputs.items streams.new.outputs.items }
     ensures begun { IfErr result CameBetween }
+    ensures ends { IfErr result (NamesEnd streams.new.outputs.items (map (λ i. i.port) streams.new.inputs.items)) }
     ensures gone { result ≡ Ok Gone → streams.new.inputs ≡ streams.old.inputs }
 {
     let put = step_outputs(rt, shared, seat, flusher, &mut streams.outputs)?;

@@ -1,8 +1,7 @@
 //! Room in the journal.
 
 ghost use Rattle.std.specs.Prelude.{◌≡◌, ◌<◌, true, false};
-ghost use Rattle.tp_book.specs.Refusals.{is_journal_full};
-ghost use Rattle.tp_area.specs.Capacity.{journal_of};
+ghost use Rattle.tp_stream.specs.Lower.{is_journal_full, journal_of};
 ghost use Rattle.tp_stream.specs.Rooms.{HavePlace, UnreservedBook, every_of, free_of, has_room_for};
 ghost use Rattle.tp_stream.specs.Told.{used_of};
 
@@ -11,14 +10,14 @@ use tp_book::Book;
 use tp_model::limits::{MAX_HELD, NUMBER_LIMIT};
 use tp_net::Topology;
 
-/// The journal of an area, in which a stream asks for room.
+/// The journal of an area, for questions about its room.
 #[derive(Clone, Copy)]
 pub(crate) struct Rooms {
     journal: JournalRoom,
 }
 
 impl Rooms {
-    /// The journal of a device's areas, each of `area` bytes.
+    /// Gives the journal of a device's areas, if each has `area` bytes.
     pub(crate) fn of(topology: &Topology, area: u64) -> Rooms
         ensures { result.journal ≡ journal_of topology.now area }
     {
@@ -27,8 +26,8 @@ impl Rooms {
         }
     }
 
-    /// Whether there is room for `more` entries that anyone may make. If the book is in such a journal, and no run is reserved, none
-    /// of them is then refused as JournalFull.
+    /// Whether there is room for `more` entries that any process may make. If there is, and the book is in this journal with no run reserved, none of
+    /// these entries is refused with `JournalFull`.
     pub(crate) fn has_room(self, book: &Book, more: u32) -> bool
         ensures value { result ≡ has_room_for self.journal book.now more }
         ensures keeps { UnreservedBook self.journal book.now → result ≡ true → is_journal_full book.now more ≡ false }
@@ -39,7 +38,7 @@ impl Rooms {
             && book.next() + u64::from(more) < NUMBER_LIMIT as u64
     }
 
-    /// How many entries there is room for.
+    /// How many more entries there is room for.
     pub(crate) fn free(self, book: &Book) -> u64
         ensures { result ≡ free_of self.journal book.now }
     {
@@ -47,8 +46,8 @@ impl Rooms {
         self.journal.left(made)
     }
 
-    /// How many entries since the kept cut begin a snapshot, if `asked` were asked for: at most those that fill half of the journal, and at least
-    /// one, so that none begins if nothing has happened.
+    /// How many entries since the kept cut begin a snapshot: `asked`, or, if that is `None` or more, as many as fill half of the journal. It is at
+    /// least one, so that no snapshot begins if nothing has happened.
     pub(crate) fn every(self, asked: Option<u32>) -> u64
         ensures value { result ≡ every_of self.journal asked }
         ensures some { 0 < result }
@@ -60,7 +59,7 @@ impl Rooms {
         }
     }
 
-    /// How much of it is in use, in percent.
+    /// How much of the journal is in use, in percent.
     pub(crate) fn used(self, book: &Book) -> u64
         ensures { result ≡ used_of self.journal book.now }
     {

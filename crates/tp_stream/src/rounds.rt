@@ -1,13 +1,12 @@
-//! Rounds of turns of the network's processes, one after the other.
+//! Rounds: turns of all processes of the network, one after the other.
 
-ghost use Rattle.std.specs.Prelude.{◌≡◌, ◌↔◌, ◌<◌, ◌≤◌, length, true, false, Ok, IfOk, IfErr, OnOk};
-ghost use Rattle.tp_model.specs.declared.limits.TheConstants.{MAX_STEPS};
-ghost use Rattle.tp_book.specs.Marked.{after_begin};
-ghost use Rattle.tp_flush.specs.Due.{is_due};
+ghost use Rattle.std.specs.Prelude.{◌≡◌, ◌↔◌, ◌<◌, ◌≤◌, length, true, false, Ok, IfOk, IfErr, OnOk, ◌⊎◌, ◌+◌, ◌-◌, ◌*◌};
+ghost use Rattle.tp_stream.specs.Lower.{MAX_STEPS, after_begin, is_due};
 ghost use Rattle.tp_stream.specs.Outcomes.{turn_fault_of};
 ghost use Rattle.tp_stream.specs.Quiet.{HadNothing, HasNoStep, HaveRested, HostRests, IsStill, NodeRests};
-ghost use Rattle.tp_stream.specs.Rooms.{HavePlace, has_room_for};
+ghost use Rattle.tp_stream.specs.Rooms.{HavePlace, StaysAhead, has_room_for};
 ghost use Rattle.tp_stream.specs.Streamed.{CameOfTurns};
+ghost use Rattle.tp_stream.specs.declared.rounds.TheConstants.{AHEAD};
 
 use crate::fault::StreamFault;
 use crate::pace::Pace;
@@ -16,13 +15,14 @@ use crate::turns::{Did, Turns};
 use std::alloc::Global;
 use std::sync::Wait;
 use tp_book::Refusal;
+use tp_model::limits::NUMBER_LIMIT;
 use tp_node::{Runs, Why};
 use tp_shared::{Locked, Naming, NoGate, NodeTurn, Seat, Shared, Sights};
 
-/// How many turns are made at most between two flushes, if no workers make any.
+/// How many turns a round has at most if no workers make any.
 const ROUND: u32 = 1024;
 
-/// Whether a run ended since there is no step, and whether that is since the node has halted. One that lacks a frame has a step left.
+/// Whether a run ended because the node has no step, and whether because it has halted. A node that lacks a frame has a step left.
 pub(crate) fn rests(why: Why) -> (bool, bool)
     ensures none { result.0 ≡ true → HasNoStep why }
     ensures some { HasNoStep why → result.0 ≡ true }
@@ -35,7 +35,7 @@ pub(crate) fn rests(why: Why) -> (bool, bool)
     }
 }
 
-/// What a node did in a turn. There was nothing to do only if it took no token and made no step, since it has none.
+/// Gives what a node did in a turn. It had nothing to do only if it took no token, made no step, and has none.
 fn did_of(turn: &NodeTurn) -> Did
     ensures taken { result.nothing ≡ true → turn.now.taken ≡ 0 }
     ensures count { result.nothing ≡ true → turn.now.ran.count ≡ 0 }
@@ -52,7 +52,7 @@ fn did_of(turn: &NodeTurn) -> Did
     }
 }
 
-/// A turn of the node `number`, of at most `quantum` steps. `runs` is what the thread keeps of instructions.
+/// Makes a turn of the node `number`, of at most `quantum` steps. `runs` has the known runs of this thread.
 fn node_turn<J: Naming, R: Wait>(
     rt: &R,
     shared: &Shared<J>,
@@ -71,7 +71,7 @@ fn node_turn<J: Naming, R: Wait>(
     }
 }
 
-/// A turn of the host.
+/// Makes a turn of the host.
 fn host_turn<J: Naming, R: Wait>(
     rt: &R,
     shared: &Shared<J>,
@@ -89,8 +89,8 @@ fn host_turn<J: Naming, R: Wait>(
     }
 }
 
-/// A turn of a process, of at most `quantum` steps; the host's if there is no such node. It says that there was nothing to do only if a node took no
-/// token and has no step, or the host took no token.
+/// Makes a turn of a process, of at most `quantum` steps; the host's turn if there is no such node. The answer says that there was nothing to do only
+/// if a node took no token and has no step, or if the host took no token.
 pub(crate) fn make_turn<J: Naming, R: Wait>(
     rt: &R,
     shared: &Shared<J>,
@@ -109,8 +109,8 @@ pub(crate) fn make_turn<J: Naming, R: Wait>(
     }
 }
 
-/// Begins a snapshot, under the book's lock, if `every` entries have been made since the kept cut and each port has room for one more byte; ignores a
-/// refusal. Answers whether one was begun.
+/// Begins a snapshot, under the book's lock, if `every` entries or more have been made since the kept cut and each port has room for one more byte.
+/// Answers whether one was begun. Ignores a refusal.
 pub(crate) fn begin_where_due<J: Naming>(held: &mut Locked<J>, alloc: Global, every: u64) -> bool
     ensures due { result ≡ true → is_due every held.old.book ≡ true }
     ensures place { result ≡ true → HavePlace held.old.book }
@@ -124,26 +124,76 @@ pub(crate) fn begin_where_due<J: Naming>(held: &mut Locked<J>, alloc: Global, ev
     held.begin_snapshot(alloc).is_ok()
 }
 
-/// What was seen of the book before a turn: whether the journal has room for it and the confirms after it, and whether a snapshot runs.
+/// For how many turns at most one look at the book is enough.
+const AHEAD: u32 = 12;
+
+/// What was seen of the book before a turn: whether the journal has room for it and the confirms after it, whether a snapshot runs, and for
+/// how many turns that stays so, this one among them.
 #[derive(Clone, Copy)]
 struct Seen {
     has_room: bool,
     is_running: bool,
+    turns: u32,
 }
 
-/// What is seen of the book under its lock.
+impl Seen {
+    /// Nothing was seen yet.
+    fn nothing() -> Seen
+        ensures { (result.is_running ≡ true) × (result.turns ≡ 0) }
+    {
+        Seen {
+            has_room: false,
+            is_running: true,
+            turns: 0,
+        }
+    }
+
+    /// One turn of these was made.
+    fn without_one(self) -> Seen
+        ensures { result ≡ record self { turns = self.turns - 1 } }
+    {
+        Seen {
+            turns: self.turns.saturating_sub(1),
+            ..self
+        }
+    }
+}
+
+/// For how many turns one look is enough: [`AHEAD`] if the journal has room and numbers for all of them and the confirms after them, and none of them
+/// comes when a snapshot is due. Else one.
+fn turns_ahead<J: Naming>(held: &Locked<J>, pace: Pace) -> u32
+    ensures some { (result ≡ 1) ⊎ (result ≡ AHEAD) }
+    ensures ahead { result ≡ AHEAD → StaysAhead pace.rooms.journal (pace.confirms + AHEAD * (pace.need - pace.confirms)) pace.every held.now.book }
+{
+    held.book().known();
+    let turn = u64::from(pace.need.saturating_sub(pace.confirms));
+    let more = u64::from(pace.confirms) + u64::from(AHEAD) * turn;
+    let next = held.book().next();
+    let made = next.saturating_sub(held.book().base());
+    let has_room = more <= pace.rooms.free(held.book());
+    if has_room && next + more < NUMBER_LIMIT as u64 && made + more < pace.every {
+        AHEAD
+    } else {
+        1
+    }
+}
+
+/// Says what the book looks like, under its lock.
 fn look_at<J: Naming>(held: &Locked<J>, pace: Pace) -> Seen
     ensures still { result.is_running ≡ false → IsStill J.start }
     ensures room { result.has_room ≡ has_room_for pace.rooms.journal held.now.book pace.need }
+    ensures some { (result.turns ≡ 1) ⊎ (result.turns ≡ AHEAD) }
+    ensures ahead { result.turns ≡ AHEAD → StaysAhead pace.rooms.journal (pace.confirms + AHEAD * (pace.need - pace.confirms)) pace.every held.now.book }
 {
     held.known();
     Seen {
         has_room: pace.rooms.has_room(held.book(), pace.need),
         is_running: held.book().recorded(held.book().nodes()),
+        turns: turns_ahead(held, pace),
     }
 }
 
-/// Checks the book before a turn. First it begins a snapshot that is due; none ends before the flusher's next turn.
+/// Begins a snapshot if one is due, and then says what the book looks like. No snapshot ends before the flusher's next turn.
 fn look<J: Naming, R: Wait>(rt: &R, alloc: Global, shared: &Shared<J>, pace: Pace) -> Seen
     ensures { result.is_running ≡ false → IsStill J.start }
 {
@@ -152,7 +202,7 @@ fn look<J: Naming, R: Wait>(rt: &R, alloc: Global, shared: &Shared<J>, pace: Pac
     look_at(&held, pace)
 }
 
-/// Why no more turns are made after one that was refused; `None` if only room was lacking.
+/// Gives why no more turns are made after one that was refused; `None` if only room was lacking.
 fn fault_of(refusal: Refusal) -> Option<StreamFault>
     ensures { result ≡ turn_fault_of refusal }
 {
@@ -163,8 +213,8 @@ fn fault_of(refusal: Refusal) -> Option<StreamFault>
     }
 }
 
-/// A turn of the process whose turn it is, after what was seen of the book. One for which the journal has no room counts, and has
-/// something left to do.
+/// Makes a turn of the process whose turn it is, given what was `seen` of the book. A turn for which the journal has no room counts, and isn't one
+/// that had nothing to do.
 fn one_turn<J: Naming, R: Wait>(
     rt: &R,
     shared: &Shared<J>,
@@ -196,7 +246,7 @@ fn one_turn<J: Naming, R: Wait>(
     }
 }
 
-/// How many turns a round has at most: one for each process if workers make others after it.
+/// How many turns a round has at most: one for each process if workers make more after it, else [`ROUND`].
 fn turns_of(turns: &Turns, nodes: u8) -> u32 {
     if turns.is_busy {
         u32::from(nodes) + 1
@@ -205,13 +255,15 @@ fn turns_of(turns: &Turns, nodes: u8) -> u32 {
     }
 }
 
-/// A round of turns, of all processes in order, until the journal has no room for one more, no turn may be made, or nothing is left to do. While a
-/// snapshot runs each process has one turn, and the flusher's turn comes next.
+/// Makes a round: turns of all processes in order. It ends when the journal has no room for one more, when no turn may be made, or when nothing is
+/// left to do. While a snapshot runs each process has one turn, and then the flusher's turn comes.
 ///
-/// While a snapshot runs, rounds and flushes go on until it has ended. It does end. Each node records in its turn, also one that has halted. Before a
-/// Marker there are at most a Data and an Ack, which its taker can take, since each port had room for one more byte, and the reserve of the journal
-/// is for them. The flusher's turn copies the frozen pages, so that no node lacks a frame for long; once all is copied and the cut is whole, the
-/// flusher ends the snapshot. The next one begins only if an entry has been made since.
+/// While a snapshot runs, rounds and flushes go on until it ends, and it does end:
+/// - Each node records in its turn, even one that has halted.
+/// - A line has at most a Data and an Ack before its Marker. Their taker can take them, since each port had room for one more byte, and the journal
+///   keeps a reserve for them.
+/// - The flusher's turn copies the frozen pages, so no node lacks a frame for long.
+/// - Once all is copied and the cut is whole, the flusher ends the snapshot. The next one begins only if an entry was made since.
 pub(crate) fn round<J: Naming, R: Wait>(
     rt: &R,
     alloc: Global,
@@ -227,18 +279,22 @@ pub(crate) fn round<J: Naming, R: Wait>(
 {
     let nodes = shared.nodes();
     let most = turns_of(turns, nodes);
+    let mut seen = Seen::nothing();
     turns.begin();
     for _ in 0..most {
         if turns.is_round_over(pace.task, nodes) {
             turns.end(pace.task, nodes, false, pace.workers > 1);
             return Ok(());
         }
-        let seen = look(rt, alloc, shared, pace);
+        if seen.turns == 0 {
+            seen = look(rt, alloc, shared, pace);
+        }
         if !seen.has_room {
             turns.fill();
             return Ok(());
         }
         one_turn(rt, shared, pace, seat, runs, turns, seen)?;
+        seen = seen.without_one();
     }
     turns.end(pace.task, nodes, true, pace.workers > 1);
     Ok(())

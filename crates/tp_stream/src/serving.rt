@@ -1,9 +1,8 @@
-//! What a stream does with a network, and its flusher.
+//! What a stream does with a network and its flusher.
 
-ghost use Rattle.std.specs.List.{list_all};
-ghost use Rattle.std.specs.Prelude.{◌≡◌, ◌≤◌, length, All, Some, IfOk, IfSome, IfErr, OnOk};
-ghost use Rattle.tp_flush.specs.Known.{Began};
-ghost use Rattle.tp_stream_files.specs.Inputs.{is_over};
+ghost use Rattle.std.specs.Prelude.{map, ◌≡◌, ℕ, ◌≤◌, List, length, All, Some, IfOk, IfSome, IfErr, OnOk};
+ghost use Rattle.tp_stream.specs.Lower.{list_all, OutputValue, Began, is_over};
+ghost use Rattle.tp_stream.specs.FailedEnds.{NamesEnd};
 ghost use Rattle.tp_stream.specs.Failures.{answer_failed};
 ghost use Rattle.tp_stream.specs.Looks.{HaveLooked, LooksAtMostOnce, LooksOnce};
 ghost use Rattle.tp_stream.specs.Over.{LeavesNoInput};
@@ -35,8 +34,8 @@ use tp_node::Runs;
 use tp_shared::{Naming, Seat};
 use tp_stream_files::{Ended, Ending, Input, Listener, Sink, Source, Stop, Streams};
 
-/// How a stream goes on: its turns, the slips of what they journalled, those of what steps of its streams did, and what the thread that makes
-/// them keeps of instructions.
+/// How far a stream is: its turns, and the known runs of the calling thread (`runs`). `seat` has the slips of what the turns journalled, `steps` of
+/// what steps of outputs and inputs did.
 #[derive(Drop)]
 pub(crate) struct Going<J: Naming> {
     pub(crate) turns: Turns,
@@ -46,7 +45,7 @@ pub(crate) struct Going<J: Naming> {
 }
 
 impl<J: Naming> Going<J> {
-    /// No turn was made, and no step. If a halted node is to end the stream, it first checks whether one has halted. `seat` gets the slips of turns,
+    /// Begins with no turn and no step. If a halted node ends the stream, it first checks whether one has halted. `seat` gets the slips of turns,
     /// `steps` those of steps.
     pub(crate) fn new<R: Wait>(
         ground: Ground<'_, J, R>,
@@ -67,13 +66,13 @@ impl<J: Naming> Going<J> {
     }
 }
 
-/// Whether nothing is left to do but an input, after steps of the streams that came to `pumped`; `over` says whether none is left that its
-/// port may take.
+/// Whether nothing is left to do but to wait for input, after steps that came to `pumped`. `over` says whether no input is left that its port may
+/// take.
 fn lacks_input(turns: &Turns, nodes: u8, pumped: Pumped, over: bool) -> bool {
     pumped == Pumped::Nothing && turns.is_quiet(nodes) && !over
 }
 
-/// Ports take bytes that came after their last steps. Answers what that came to; `None` if none was taken.
+/// Lets ports take bytes that came after their last steps. Answers what that came to; `None` if no port took any.
 fn take_awaited<J: Naming, I: Source, R: Wait>(
     ground: Ground<'_, J, R>,
     going: &mut Going<J>,
@@ -81,6 +80,7 @@ fn take_awaited<J: Naming, I: Source, R: Wait>(
 ) -> Result<Option<Pumped>, StreamFault>
     ensures steps { going.new ≡ record going.old { steps = going.new.steps } }
     ensures begun { IfErr result CameBetween }
+    ensures ends { (outputs : List OutputValue) → IfErr result (NamesEnd outputs (map (λ i. i.port) inputs.new)) }
 {
     let Ground { rt, net, pace, .. } = ground;
     match step_inputs(rt, net.shared(), pace, &mut going.steps, false, inputs) {
@@ -90,7 +90,7 @@ fn take_awaited<J: Naming, I: Source, R: Wait>(
     }
 }
 
-/// Ports take such bytes. Answers what that came to; `pumped` if none was taken, and `None` if ends of inputs came in place of bytes.
+/// Lets ports take such bytes. Answers what that came to, or `pumped` if no port took any. Answers `None` if inputs came to their ends instead.
 fn take_or<J: Naming, I: Source, R: Wait>(
     ground: Ground<'_, J, R>,
     going: &mut Going<J>,
@@ -99,6 +99,7 @@ fn take_or<J: Naming, I: Source, R: Wait>(
 ) -> Result<Option<Pumped>, StreamFault>
     ensures steps { going.new ≡ record going.old { steps = going.new.steps } }
     ensures begun { IfErr result CameBetween }
+    ensures ends { (outputs : List OutputValue) → IfErr result (NamesEnd outputs (map (λ i. i.port) inputs.new)) }
 {
     match take_awaited(ground, going, inputs) {
         Ok(None) if are_over(inputs) => Ok(None),
@@ -107,9 +108,8 @@ fn take_or<J: Naming, I: Source, R: Wait>(
     }
 }
 
-/// Rests if something else is to be done meanwhile, and nothing is left to do but an input whose bytes haven't come yet. Those that come end the
-/// rest, and ports take them at once, as they do those that came before it. Answers what steps of the streams have come to with that; `None` if it
-/// rested in vain.
+/// Rests if the stream has something else to do meanwhile, and nothing is left to do but to wait for input. Bytes that come end the rest, and ports
+/// take them at once; they also take bytes that came before it. Answers what all steps have come to then; `None` if it rested and nothing came.
 fn rest_where_late<J: Naming, I: Source, R: Wait>(
     ground: Ground<'_, J, R>,
     going: &mut Going<J>,
@@ -119,6 +119,7 @@ fn rest_where_late<J: Naming, I: Source, R: Wait>(
 ) -> Result<Option<Pumped>, StreamFault>
     ensures steps { going.new ≡ record going.old { steps = going.new.steps } }
     ensures begun { IfErr result CameBetween }
+    ensures ends { (outputs : List OutputValue) → IfErr result (NamesEnd outputs (map (λ i. i.port) inputs.new)) }
 {
     let Ground { rt, net, pace, .. } = ground;
     let shared = net.shared();
@@ -132,7 +133,8 @@ fn rest_where_late<J: Naming, I: Source, R: Wait>(
     }
 }
 
-/// Makes turns; or, if the journal has no room for one, or nothing is left to do but an input for which it has no room, brings a snapshot to its end.
+/// Makes turns. It brings a snapshot to its end instead if the journal has no room for a turn, or if only input is left to take and the journal has
+/// no room for it.
 fn make_turns<J: Naming, R: Wait>(
     ground: Ground<'_, J, R>,
     going: &mut Going<J>,
@@ -166,7 +168,7 @@ fn make_turns<J: Naming, R: Wait>(
     round(rt, alloc, shared, pace, seat, runs, turns)
 }
 
-/// Makes turns, after steps of the streams that came to `pumped`, once it has rested if an input is late; `None` if it rested in vain.
+/// Rests if an input is late, and then makes turns, after steps that came to `pumped`. If it rested and nothing came, it makes no turns.
 fn rest_or_turn<J: Naming, I: Source, R: Wait>(
     ground: Ground<'_, J, R>,
     going: &mut Going<J>,
@@ -177,6 +179,7 @@ fn rest_or_turn<J: Naming, I: Source, R: Wait>(
     requires { HaveRested J.start going.old.turns.whose going.old.turns.idle }
     ensures rested { OnOk result (HaveRested J.start going.new.turns.whose going.new.turns.idle) }
     ensures begun { IfErr result CameBetween }
+    ensures ends { (outputs : List OutputValue) → IfErr result (NamesEnd outputs (map (λ i. i.port) inputs.new)) }
 {
     match rest_where_late(ground, going, inputs, pumped, over) {
         Ok(Some(pumped)) => make_turns(ground, going, pumped, over),
@@ -185,8 +188,9 @@ fn rest_or_turn<J: Naming, I: Source, R: Wait>(
     }
 }
 
-/// Makes a step of each stream, checks whether it is asked to stop, and then makes turns. If nothing else is left to do, it waits for input. If the
-/// journal has no room for the confirms, it first brings a snapshot to its end. Answers why the stream is over, if it is: then no turn was made.
+/// Makes a step of each output and input, checks whether the stream is asked to stop, and then makes turns. If nothing else is left to do, it waits
+/// for input. If the journal has no room for the confirms, it first brings a snapshot to its end. Answers why the stream is over, and then makes no
+/// turns; `None` if it goes on.
 #[tactic(auto, using(crate::proofs::Stepping::all_still))]
 fn go_on<J: Naming, D: Disk, S: Sink, I: Source, P: Stop, R: Wait>(
     ground: Ground<'_, J, R>,
@@ -205,6 +209,7 @@ fn go_on<J: Naming, D: Disk, S: Sink, I: Source, P: Stop, R: Wait>(
     ensures over { IfOk result (λ ended. IfSome ended (λ why. going.new ≡ record going.old { steps = going.new.steps })) }
     ensures rested { OnOk result (HaveRested J.start going.new.turns.whose going.new.turns.idle) }
     ensures begun { IfErr result CameBetween }
+    ensures ends { IfErr result (NamesEnd streams.new.outputs.items (map (λ i. i.port) streams.new.inputs.items)) }
 {
     let Ground {
         rt,
@@ -243,7 +248,7 @@ fn go_on<J: Naming, D: Disk, S: Sink, I: Source, P: Stop, R: Wait>(
     Ok(None)
 }
 
-/// Makes a flush, tells how far it has come with that, and does all that comes before the next flush.
+/// Flushes, tells the listener how far the stream has come, and does all that comes before the next flush.
 #[tactic(auto, using(crate::proofs::Stepping::all_still))]
 fn cycle<J: Naming, D: Disk, S: Sink, I: Source, L: Listener, P: Stop, R: Wait>(
     ground: Ground<'_, J, R>,
@@ -261,6 +266,7 @@ fn cycle<J: Naming, D: Disk, S: Sink, I: Source, L: Listener, P: Stop, R: Wait>(
     ensures progress { OnOk result (TellsProgress ground.entry.pace.task.tells ground.entry.pace.rooms.journal flusher.new going.old.turns.made streams.old.outputs.items (L.told listener.old) (L.told listener.new)) }
     ensures over { IfOk result (λ ended. IfSome ended (λ why. going.new ≡ record going.old { steps = going.new.steps })) }
     ensures rested { OnOk result (HaveRested J.start going.new.turns.whose going.new.turns.idle) }
+    ensures ends { IfErr result (NamesEnd streams.new.outputs.items (map (λ i. i.port) streams.new.inputs.items)) }
 {
     let Ground {
         rt,
@@ -275,7 +281,7 @@ fn cycle<J: Naming, D: Disk, S: Sink, I: Source, L: Listener, P: Stop, R: Wait>(
     go_on(ground, going, flusher, streams, stop)
 }
 
-/// A cycle; and after it a shift, with the flusher's turns beside it, if it isn't over, there is more to do than a round did, and all workers have
+/// Makes a cycle. After that it makes a shift, with the flusher's turns beside it, if the stream isn't over, much is left to do, and all workers have
 /// come.
 fn lap<J: Naming, D: Disk, S: Sink, I: Source, L: Listener, P: Stop, R: Wait>(
     ground: Ground<'_, J, R>,
@@ -295,6 +301,7 @@ fn lap<J: Naming, D: Disk, S: Sink, I: Source, L: Listener, P: Stop, R: Wait>(
     ensures looks { IfOk result (LooksAtMostOnce ground.entry.pace.task (P.answers stop.old) (P.answers stop.new)) }
     ensures told { ToldLater (length J.start.nodes) (L.told listener.old) (L.told listener.new) }
     ensures rested { OnOk result (HaveRested J.start going.new.turns.whose going.new.turns.idle) }
+    ensures ends { IfErr result (NamesEnd streams.new.outputs.items (map (λ i. i.port) streams.new.inputs.items)) }
 {
     let Ground { rt, pace, .. } = ground;
     let done = cycle(ground, going, flusher, streams, listener, stop);
@@ -311,7 +318,7 @@ fn lap<J: Naming, D: Disk, S: Sink, I: Source, L: Listener, P: Stop, R: Wait>(
     done
 }
 
-/// All laps, until nothing more is to be done or one fails.
+/// Makes laps until the stream is over or one fails.
 #[inline(never)]
 pub(crate) fn laps<J: Naming, D: Disk, S: Sink, I: Source, L: Listener, P: Stop, R: Wait>(
     ground: Ground<'_, J, R>,
@@ -330,6 +337,7 @@ pub(crate) fn laps<J: Naming, D: Disk, S: Sink, I: Source, L: Listener, P: Stop,
     ensures answer { ServedAnswer J.start ground.entry.pace.task (list_all (λ i. is_over i.ended i.is_blocked) streams.new.inputs.items) result }
     ensures told { ToldLater (length J.start.nodes) (L.told listener.old) (L.told listener.new) }
     ensures looks { IfOk result (HaveLooked ground.entry.pace.task (P.answers stop.old) (P.answers stop.new)) }
+    ensures ends { IfErr result (NamesEnd streams.new.outputs.items (map (λ i. i.port) streams.new.inputs.items)) }
 {
     flusher.known();
     let mut last = Ok(None);
@@ -342,8 +350,8 @@ pub(crate) fn laps<J: Naming, D: Disk, S: Sink, I: Source, L: Listener, P: Stop,
     last
 }
 
-/// Makes turns, and lets each stream make its steps, until that ends. Answers the number that the next entry gets, all below
-/// being stored, and why it is over; which nodes have stopped is told before.
+/// Makes turns and steps until the stream is over. Answers the number that the next entry gets, and why it is over; all entries below that number are
+/// stored. Before that it tells the listener which nodes have stopped.
 #[inline(never)]
 pub(crate) fn serve<
     J: Naming + Send + Sync,
@@ -374,6 +382,7 @@ pub(crate) fn serve<
     ensures put { D.keeps → Began J.formatted J.before flusher.old.opened
         → IfOk result (λ ended. EndsPut J.formatted flusher.new.world.journal ended.why streams.new.outputs.items) }
     ensures begun { IfErr result CameBegun }
+    ensures ends { IfErr result (NamesEnd streams.new.outputs.items (map (λ i. i.port) streams.new.inputs.items)) }
 {
     let Ground { rt, alloc, net, .. } = ground;
     let shared = net.shared();
@@ -381,7 +390,7 @@ pub(crate) fn serve<
     let rests = going.turns.is_quiet(shared.nodes());
     let why = match last {
         Ok(Some(why)) => why,
-        // The loop goes on as long as nothing is answered.
+        // The laps go on as long as the answer is `Ok(None)`.
         Ok(None) => return Err(StreamFault::NotStored),
         Err(fault) => return Err(fault),
     };

@@ -1,4 +1,4 @@
-//! Turns that bring a snapshot to its end if the journal has no room for others.
+//! Turns that bring a snapshot to its end when the journal has no room for others.
 
 ghost use Rattle.std.specs.Prelude.{◌≡◌, OnOk, IfErr};
 ghost use Rattle.tp_stream.specs.Streamed.{CameOfTurns};
@@ -12,17 +12,17 @@ use tp_book::Refusal;
 use tp_node::Runs;
 use tp_shared::{Naming, Seat, Shared};
 
-/// How many times each process settles: nothing runs, so a line has at most one Data and one Ack before its Marker.
+/// How many times each process settles. No node runs meanwhile, so a line has at most one Data and one Ack before its Marker.
 const SETTLES: u8 = 4;
 
-/// Begins a snapshot if none runs, under the book's lock.
+/// Begins a snapshot, under the book's lock, if none runs.
 fn begin_now<J: Naming, R: Wait>(rt: &R, alloc: Global, shared: &Shared<J>) {
     let mut held = shared.book().lock(rt);
     held.known();
     let _begun = begin_where_due(&mut held, alloc, 0);
 }
 
-/// Each process records, takes and closes, and none runs.
+/// Makes a turn of no steps for each process: it records, takes its tokens and closes its lines. Fails with `NotStored` if the store is broken.
 fn settle_once<J: Naming, R: Wait>(
     rt: &R,
     shared: &Shared<J>,
@@ -40,7 +40,8 @@ fn settle_once<J: Naming, R: Wait>(
     Ok(())
 }
 
-/// Brings a snapshot to its end without any run; refuses once that was tried in vain too often.
+/// Brings a snapshot to its end without running a node. Fails with `JournalFull` if that was tried in vain too often, and with `NotStored` if the
+/// store is broken.
 pub(crate) fn settle<J: Naming, R: Wait>(
     rt: &R,
     alloc: Global,

@@ -1,4 +1,4 @@
-//! What workers and the flusher tell each other while both go on.
+//! What workers and the flusher tell each other while both work.
 
 ghost use Rattle.std.specs.Prelude.{◌≡◌, ◌↔◌, ◌≤◌, ◌+◌, ◌*◌, true, false, None, IfErr, IfSome};
 ghost use Rattle.tp_stream.specs.Outcomes.{noted_outcome, refusal_number, refused_of};
@@ -15,18 +15,28 @@ use tp_model::limits::MAX_GROUP;
 use tp_node::Why;
 use tp_work::{Turn, TurnFault};
 
-/// How many microseconds the flusher sleeps if no turn is left and too little was made. No turn wakes it.
+/// How many microseconds the flusher sleeps if no turn is left or too few entries were made. No turn wakes it.
 const SLEEP: u64 = 500;
 
-/// The number of turns that were refused for lack of memory.
+/// The number for a turn that was refused for lack of memory.
 const MEMORY: u64 = 1;
 
-/// The number of turns that were refused since the book is broken: it is greater, so it is told if there were both.
+/// The number for a turn that was refused because the book is broken. It is the greater one, so it is told if turns were refused for both reasons.
 const BROKEN: u64 = 2;
 
-/// Shifts, in order, of workers that stay. Of the last opened one: how many turns it may have, and how many are left; how many of the last turns in a
-/// row had nothing to do, and how many of these end it; and whether it is to end. Of all shifts: entries made, or a greater number; whether a node
-/// has halted; and the greatest number of a refused turn (`refusal_number`). It needs no lock.
+/// Shifts of workers that stay, one after the other. It needs no lock.
+///
+/// Of the shift that was opened last:
+/// - `turns`: how many turns it may have
+/// - `left`: how many of them are left
+/// - `idle`: how many of the last turns in a row had nothing to do
+/// - `idle_at_most`: how many of these don't end it yet
+/// - `is_over`: whether it is to end
+///
+/// Of all shifts:
+/// - `made`: how many entries were made, or a greater number
+/// - `has_halted`: whether a node has halted
+/// - `refusal`: the greatest number of a refused turn, by `refusal_number`
 #[derive(Drop)]
 pub(crate) struct Shift {
     pub(crate) crew: Crew,
@@ -40,7 +50,7 @@ pub(crate) struct Shift {
     refusal: AtomicU64,
 }
 
-/// Whether a process had nothing to do in a turn, and whether it is a node that has halted.
+/// Says whether a process had nothing to do in a turn, and whether it is a node that has halted.
 fn seen_of(turn: &Turn) -> (bool, bool)
     ensures nothing { result.0 ≡ true ↔ HadNoWork turn.now }
     ensures halted { IfSome turn.now.ran (λ ran. result.1 ≡ true ↔ (ran.why ≡ Why.Halted)) }
@@ -55,14 +65,14 @@ fn seen_of(turn: &Turn) -> (bool, bool)
     }
 }
 
-/// What a shift keeps of a turn that was refused: whether it ends by that, and the number that says why.
+/// What a shift keeps of a turn that was refused: whether that ends the shift, and the number for its reason.
 #[derive(Clone, Copy)]
 struct Refused {
     ends: bool,
     number: u64,
 }
 
-/// The number that says why a turn was refused: 0 if that is no fault, since room was lacking, or no process was there.
+/// Gives the number for why a turn was refused. It is 0 if that is no fault: room was lacking, or no process was there.
 fn refusal_number(fault: TurnFault) -> u64
     ensures { result ≡ refusal_number fault }
 {
@@ -73,7 +83,7 @@ fn refusal_number(fault: TurnFault) -> u64
     }
 }
 
-/// What a shift keeps of a refused turn, by its fault. If no process was there, that ends nothing.
+/// Gives what a shift keeps of a refused turn. It ends the shift, unless no process was there.
 fn refused_of(fault: TurnFault) -> Refused
     ensures { result ≡ refused_of fault }
 {
@@ -83,7 +93,7 @@ fn refused_of(fault: TurnFault) -> Refused
     }
 }
 
-/// Why turns were refused, by the greatest of their numbers, if it wasn't for room.
+/// Gives the fault for the greatest number of refused turns; `Ok` if only room was lacking.
 fn outcome_of(number: u64) -> Result<(), StreamFault>
     ensures value { result ≡ noted_outcome number }
     ensures begun { IfErr result CameOfTurns }
@@ -96,7 +106,7 @@ fn outcome_of(number: u64) -> Result<(), StreamFault>
 }
 
 impl Shift {
-    /// No shift is open. One that is ends early once more turns in a row had nothing to do than two for each of `nodes` nodes, and for the host.
+    /// Begins with no open shift. A shift ends early once more than 2 × (`nodes` + 1) turns in a row had nothing to do.
     pub(crate) fn new(nodes: u8) -> Shift
         ensures { result.idle_at_most ≡ 2 * (nodes + 1) }
     {
@@ -114,7 +124,7 @@ impl Shift {
     }
 
     /// Opens a shift of `turns` turns, if none is open, and wakes the workers. Answers how many entries were made before, or a greater number. First
-    /// it takes away what the shift before had left, so a worker that wakes late draws no turn that isn't counted.
+    /// it takes away the turns that the shift before had left. So all turns that late workers draw are counted.
     pub(crate) fn open(&self, turns: u64) -> u64 {
         self.left.store(0, Ordering::SeqCst);
         self.idle.store(0, Ordering::SeqCst);
@@ -126,7 +136,7 @@ impl Shift {
         made
     }
 
-    /// Takes one of the turns that are left; `false` if none is, or if the shift is to end.
+    /// Takes one of the turns that are left. Answers `false` if none is left, or if the shift is to end.
     pub(crate) fn draw(&self) -> bool {
         !self.is_over.load(Ordering::SeqCst)
             && self
@@ -139,17 +149,17 @@ impl Shift {
                 .is_ok()
     }
 
-    /// Whether no more turns are made.
+    /// Whether no more turns are made in this shift.
     fn is_out(&self) -> bool {
         self.is_over.load(Ordering::SeqCst) || self.left.load(Ordering::SeqCst) == 0
     }
 
-    /// Has it end: no more turns are made.
+    /// Ends the shift: no more turns are made.
     pub(crate) fn stop(&self) {
         self.is_over.store(true, Ordering::SeqCst);
     }
 
-    /// Tells that a turn had nothing to do, or had something.
+    /// Tells whether a turn had nothing to do.
     fn tell_idle(&self, nothing: bool) {
         if !nothing {
             self.idle.store(0, Ordering::SeqCst);
@@ -166,7 +176,7 @@ impl Shift {
         }
     }
 
-    /// Tells what a turn did, which made `count` entries. The flusher sees it while it is awake, and once it has slept.
+    /// Tells what a turn did, and that it made `count` entries. The flusher reads it when it is awake, or when its sleep is over.
     pub(crate) fn tell(&self, done: &Result<Turn, TurnFault>, count: u64) {
         self.made.fetch_add(count, Ordering::SeqCst);
         match done {
@@ -181,7 +191,7 @@ impl Shift {
         }
     }
 
-    /// A worker makes no more turns of the one that is open. The last one wakes the flusher.
+    /// Tells that a worker makes no more turns in the open shift. The last worker wakes the flusher.
     pub(crate) fn leave(&self) {
         if self.crew.leave() {
             self.made.fetch_add(1, Ordering::SeqCst);
@@ -189,18 +199,18 @@ impl Shift {
         }
     }
 
-    /// Whether it has ended: no more turns are made, and no worker is in one. A worker that comes later finds none left.
+    /// Whether the shift has ended: no more turns are made, and no worker is in one. A worker that comes later finds no turns left.
     fn has_ended(&self) -> bool {
         self.is_out() && self.crew.is_out()
     }
 
-    /// Whether as many entries more than `seen` were made as fill a group.
+    /// Whether enough entries beyond `seen` were made to fill a group.
     pub(crate) fn is_due(&self, seen: u64) -> bool {
         self.made.load(Ordering::SeqCst).saturating_sub(seen) >= MAX_GROUP as u64
     }
 
-    /// Waits until enough entries beyond `seen` were made to fill a group, or some while it slept for [`SLEEP`] microseconds, and answers how many
-    /// there are; `None` once the shift has ended.
+    /// Waits until enough entries beyond `seen` were made to fill a group, or until it has slept for [`SLEEP`] microseconds and some were made.
+    /// Answers how many were made in all; `None` once the shift has ended.
     pub(crate) fn wait<R: Wait>(&self, rt: &R, seen: u64) -> Option<u64> {
         let mut has_slept = false;
         for _ in rt.forever() {
@@ -222,7 +232,7 @@ impl Shift {
         None
     }
 
-    /// How many turns were made in the one that was opened last.
+    /// How many turns were made in the shift that was opened last.
     pub(crate) fn count(&self) -> u64 {
         let left = self.left.load(Ordering::SeqCst);
         self.turns.load(Ordering::SeqCst).saturating_sub(left)
@@ -233,12 +243,12 @@ impl Shift {
         self.has_halted.load(Ordering::SeqCst)
     }
 
-    /// Whether it ended since nothing was left to do.
+    /// Whether the shift ended because nothing was left to do.
     pub(crate) fn is_idle(&self) -> bool {
         self.idle.load(Ordering::SeqCst) > self.idle_at_most
     }
 
-    /// Why turns were refused, if it wasn't for room.
+    /// Gives why turns were refused, as a fault; `Ok` if only room was lacking.
     pub(crate) fn outcome(&self) -> Result<(), StreamFault>
         ensures { IfErr result CameOfTurns }
     {

@@ -1,4 +1,4 @@
-//! How far a port has come as its device is opened.
+//! How far a port has come when its device is opened.
 
 ghost use Rattle.std.specs.Prelude.{◌≡◌, ◌<◌, ◌≤◌, length};
 ghost use Rattle.tp_book.specs.Host.{port_in};
@@ -6,7 +6,7 @@ ghost use Rattle.tp_stream.specs.Standing.{put_out, port_standing};
 
 use tp_book::Book;
 
-/// Up to where a port's outputs are confirmed, up to where they are shown, and how many it has put out in all.
+/// How far a port has come, in bytes: how many of its outputs are confirmed, how many are shown, and how many it has put out in all.
 #[derive(Clone, Copy)]
 pub(crate) struct Standing {
     pub(crate) confirmed: u64,
@@ -15,7 +15,7 @@ pub(crate) struct Standing {
 }
 
 impl Standing {
-    /// If a port is in the book of a device that opened, whose mark is `mark`.
+    /// Gives how far a port has come in the book of a device that opened, whose mark is `mark`.
     #[tactic(auto, using(crate::proofs::Standings::length_outputs))]
     pub(crate) fn of(book: &Book, port: u8, mark: u64) -> Standing
         requires there { port < length book.now.state.ports }

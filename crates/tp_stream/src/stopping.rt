@@ -32,8 +32,8 @@ fn has_pending(book: &Book) -> bool {
     false
 }
 
-/// Whether a stream that ended so left input that no node takes any more. `rests` says whether nothing was left to do: a stream may also
-/// end since whoever read its output has ended, and then a node would have gone on.
+/// Whether a stream that ended for this reason left input that no node takes any more. `rests` says whether nothing was left to do. A stream may also
+/// end because whoever read its output has gone; then a node might have gone on, so the input isn't stuck.
 fn is_stuck<J: Naming, R: Wait>(rt: &R, shared: &Shared<J>, why: Ending, rests: bool) -> bool {
     match why {
         Ending::Quiet | Ending::Gone if rests => {
@@ -44,7 +44,7 @@ fn is_stuck<J: Naming, R: Wait>(rt: &R, shared: &Shared<J>, why: Ending, rests: 
     }
 }
 
-/// How a node has stopped; `None` if it hasn't. One that waits has stopped if there is input that no node takes any more.
+/// Gives how a node has stopped; `None` if it hasn't. A node that waits has stopped if there is input that no node takes any more.
 fn stopped(standing: Standing, is_stuck: bool) -> Option<Stopped>
     ensures { result ≡ stopped_of standing is_stuck }
 {
@@ -55,7 +55,7 @@ fn stopped(standing: Standing, is_stuck: bool) -> Option<Stopped>
     }
 }
 
-/// Tells of each node that has stopped, in order, if a stream ended for this reason; with `rests` nothing was left to do.
+/// Tells the listener of each node that has stopped, in order, if the stream ended for this reason. `rests` says whether nothing was left to do.
 pub(crate) fn tell_stopped<J: Naming, L: Listener, R: Wait>(
     rt: &R,
     shared: &Shared<J>,

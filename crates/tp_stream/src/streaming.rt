@@ -1,24 +1,8 @@
 //! A stream, from a device to a device.
 
-ghost use Rattle.std.specs.List.{AllByRecursion, list_all};
 ghost use Rattle.std.specs.Prelude.{◌≡◌, ◌⊎◌, ◌++◌, ◌+◌, ◌<◌, ◌≤◌, max, false, true, Ok, Err, Some, length, map, OnOk, IfOk, IfErr, IsErr};
-ghost use Rattle.tp_area.specs.Capacity.{journal_of};
-ghost use Rattle.tp_area.specs.Places.{place_at};
-ghost use Rattle.tp_flush.specs.Known.{Began};
-ghost use Rattle.tp_model.specs.DiskHistory.{IsSynced};
-ghost use Rattle.tp_law_machine.specs.NodeOfBytes.{IsNodeOfBytes};
-ghost use Rattle.tp_model.specs.Journal.{is_roomy, room};
-ghost use Rattle.tp_model.specs.Node.{t414_ends};
-ghost use Rattle.tp_model.specs.Opening.{Opened as OpenedValue, next_of, verdict};
-ghost use Rattle.tp_model.specs.Spelling.{IsCut};
-ghost use Rattle.tp_model.specs.Topology.{node_count};
-ghost use Rattle.tp_model.specs.declared.limits.TheConstants.{MAX_STEPS};
-ghost use Rattle.tp_recover.specs.Reading.{LeavesNothingNew};
-ghost use Rattle.tp_flush.specs.Made.{IsMadeOf};
-ghost use Rattle.tp_flush.specs.History.{History};
-ghost use Rattle.tp_shared.specs.Named.{Names};
-ghost use Rattle.tp_stream_files.specs.Inputs.{given_input, is_over};
-ghost use Rattle.tp_stream_files.specs.Outputs.{given_of};
+ghost use Rattle.tp_stream.specs.Lower.{AllByRecursion, list_all, journal_of, place_at, Began, IsSynced, IsNodeOfBytes, is_roomy, room, t414_ends, OpenedValue, next_of, verdict, IsCut, node_count, MAX_STEPS, LeavesNothingNew, IsMadeOf, History, Names, given_input, is_over, given_of, Unopened, MAX_WORKERS};
+ghost use Rattle.tp_stream.specs.FailedEnds.{NamesEnd};
 ghost use Rattle.tp_stream.specs.Failures.{StreamAnswer, answer_failed, calls_failed};
 ghost use Rattle.tp_stream.specs.Fitting.{SaysFit};
 ghost use Rattle.tp_stream.specs.Put.{ServedInto, StreamedInto};
@@ -29,8 +13,6 @@ ghost use Rattle.tp_stream.specs.Rooms.{every_of, need_of};
 ghost use Rattle.tp_stream.specs.Standing.{AllHaveAccepted, AllMayBegin, IsFirstRefused, IsFirstShort, OfInput, OfOutput, accepted_opened, stands_opened};
 ghost use Rattle.tp_stream.specs.Streamed.{CameBegun, StaysUnstreamed, Streamed};
 ghost use Rattle.tp_stream.specs.Told.{ToldFirst, ToldLater, input_begins, output_begins};
-ghost use Rattle.tp_recover.specs.declared.unopened.Unopened.{Unopened};
-ghost use Rattle.tp_work.specs.declared.start.TheConstants.{MAX_WORKERS};
 
 use crate::beginning::task_fault;
 use crate::fault::StreamFault;
@@ -57,7 +39,7 @@ use tp_stream_files::{Ended, Listener, Sink, Source, Stop, Streams};
 use tp_turn::{TAKES, TURN_ENTRIES};
 use tp_work::{MAX_WORKERS, Net};
 
-/// How many workers make turns on a device of this topology: as many as are asked for, at least one, and no more than there are processes.
+/// How many workers make turns on a device of this topology: as many as the task asks for, at least one, and no more than there are processes.
 fn workers_of(task: Task, topology: &Topology) -> u8
     ensures some { 0 < result }
     ensures few { result ≤ MAX_WORKERS }
@@ -68,8 +50,8 @@ fn workers_of(task: Task, topology: &Topology) -> u8
     task.workers.min(processes).min(MAX_WORKERS).max(1)
 }
 
-/// How turns are made on a device of this topology. Each needs room for a node's turn, or for the host's with [`TAKES`] entries a port,
-/// whichever is more, and for a confirm a port.
+/// Says how turns are made on a device of this topology. Each needs room for a node's turn, or for the host's, which makes up to [`TAKES`] entries a
+/// port, whichever is more. It also needs room for one confirm of each port.
 fn pace_of(task: Task, topology: &Topology, area: u64) -> Pace
     requires { task.quantum ≤ MAX_STEPS }
     ensures task { result.task ≡ task }
@@ -91,8 +73,8 @@ fn pace_of(task: Task, topology: &Topology, area: u64) -> Pace
     }
 }
 
-/// A device that opened, taken apart for a stream: what it opened to, its topology, the parts of its network, the raiser of its mark, what the
-/// calling thread keeps of instructions, and its store.
+/// The parts of a device that opened, for a stream: what was read, its topology, the parts of its network, the raiser of its mark, the known runs of
+/// the calling thread, and its store.
 struct Device<D: Disk> {
     opened: Snapshot<Opened>,
     topology: Topology,
@@ -102,7 +84,7 @@ struct Device<D: Disk> {
     store: Store<D>,
 }
 
-/// A stream over the store of a device that was opened, with the parts that were made of it.
+/// Runs a stream over the store of an opened device, with the parts that were made of it.
 #[inline(never)]
 fn stream_parts<
     J: Naming + Send + Sync,
@@ -143,6 +125,7 @@ fn stream_parts<
     ensures told { ToldLater (node_count device.topology) (L.told listener.old) (L.told listener.new) }
     ensures failures { D.failures_of result.0 ≡ calls_failed (answer_failed result.1) (D.failures_of device.store.disk) }
     ensures begun { IfErr result.1 CameBegun }
+    ensures ends { IfErr result.1 (NamesEnd streams.new.outputs.items (map (λ i. i.port) streams.new.inputs.items)) }
 {
     let Device {
         opened,
@@ -177,17 +160,21 @@ fn stream_parts<
     (flusher.into_disk(), done)
 }
 
-/// Opens a device, and lets its network run: flushes, steps of each stream, and turns of all processes in order, in this one thread. Between two
-/// cycles of these, if more than one worker is asked for and there is much to do, workers make turns in threads of their own, beside flushes and
-/// turns in this one. Answers the device, and the number that the next entry gets.
+/// Opens a device, and lets its network run in this one thread: flushes, steps of each output and input, and turns of all processes in order. Between
+/// two such cycles there may be a shift, if the task asks for more than one worker and there is much to do: workers make turns in threads of their
+/// own, while this thread flushes and makes turns, too. Answers the device, and the number that the next entry gets.
 ///
-/// Whatever a crash leaves at any moment of the call is what one just before might have left, or opens to where a prefix of the journal leads, with
-/// all that the device had. After a stream that was done it has each entry below the answered number, and these are all of the journal. What a sink
-/// got, however the stream ends, are outputs of its port where entries of that journal lead that whatever a crash leaves from then on has. If it has
-/// ended as quiet, or since all turns were made, they are all that a port has put out, and confirmed. `Output` says, of each moment, that all that
-/// was put is safe, and no more is confirmed. It ends as stopped exactly if the last check whether it is asked to stop has answered yes, and no check
-/// before that has. A fault of the opening is what that answers. That a call of the device failed, as it was opened or in a flush, is answered
-/// exactly if one has.
+/// A crash at any moment of the call leaves one of two things. Either a crash just before the call might have left it, too; or it opens to the
+/// network that a prefix of the journal leads to. That prefix has all that the device had. After a finished stream the prefix has each entry below
+/// the answered number, and the journal has no others.
+///
+/// However the stream ends, what a sink got are outputs of its port, and whatever a crash leaves from then on has the entries that lead to them. If
+/// the stream ended as quiet, or since all turns were made, they are all that the port has put out, and all are confirmed. `Output` says that, at
+/// each moment, all that was put is safe, and no more than that is confirmed.
+///
+/// The stream ends as stopped exactly if its last check whether it is asked to stop answered yes; no check before that did. It fails with `Opening`
+/// if the device isn't opened. `InputFailed` and `OutputFailed` name the port of an input or output that was given. Its answer says that a call of
+/// the device failed, at the opening or in a flush, exactly if one did.
 #[inline(never)]
 pub fn stream<
     D: Disk + Send + Drop,
@@ -237,6 +224,7 @@ pub fn stream<
         → OnOk result.1 (ToldFirst (map (output_begins (stands_opened opened)) (map given_of streams.old.outputs.items)
         ++ map (input_begins (accepted_opened opened)) (map (λ i. given_input i.port (I.input i.source)) streams.old.inputs.items))
         (node_count opened.head.topology) (L.told listener.old) (L.told listener.new)) }
+    ensures ends { IfErr result.1 (NamesEnd streams.new.outputs.items (map (λ i. i.port) streams.new.inputs.items)) }
     ensures untouched { StaysUnstreamed result.1 → map given_of streams.new.outputs.items ≡ map given_of streams.old.outputs.items }
 {
     let mut disk = disk;

@@ -13,7 +13,7 @@ use tp_model::limits::MAX_PORTS;
 use tp_shared::{Naming, Shared};
 use tp_stream_files::{Listener, Output, Progress, Sink};
 
-/// Up to where the outputs of a port were put; `None` if no sink is for it.
+/// Up to which position the outputs of a port were put; `None` if no sink is for it.
 fn put_at<S: Sink>(outputs: &[Output<S>], port: usize) -> Option<u64>
     ensures { result ≡ put_in outputs.now port }
 {
@@ -25,7 +25,7 @@ fn put_at<S: Sink>(outputs: &[Output<S>], port: usize) -> Option<u64>
     None
 }
 
-/// Up to where each port's outputs were put.
+/// Up to which position each port's outputs were put.
 fn put_of<S: Sink>(outputs: &[Output<S>]) -> [Option<u64>; MAX_PORTS]
     ensures { SaysPut outputs.now result }
 {
@@ -36,7 +36,7 @@ fn put_of<S: Sink>(outputs: &[Output<S>]) -> [Option<u64>; MAX_PORTS]
     put
 }
 
-/// Says how far the stream of this book and flusher has come after `turns` turns: each number is theirs.
+/// Says how far a stream has come after `turns` turns, by the numbers of its book and flusher.
 fn progress_of<J: Naming, D: Disk, S: Sink>(
     book: &Book,
     rooms: Rooms,
@@ -57,7 +57,7 @@ fn progress_of<J: Naming, D: Disk, S: Sink>(
     }
 }
 
-/// Tells how far it has come, if that is to be told.
+/// Tells the listener how far the stream has come, if the task says so.
 pub(crate) fn tell<J: Naming, D: Disk, S: Sink, L: Listener, R: Wait>(
     rt: &R,
     shared: &Shared<J>,

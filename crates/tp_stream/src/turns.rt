@@ -6,13 +6,13 @@ ghost use Rattle.tp_stream.specs.declared.turns.TheConstants.{HEAVY, MOST_SETTLE
 
 use crate::task::Task;
 
-/// How often the journal is settled in a row before it counts as full for ever.
+/// How often in a row the journal is settled in vain before it counts as full for ever.
 const MOST_SETTLED: u32 = 64;
 
-/// How many steps in a turn, in the mean of a round, make it worth a thread.
+/// How many steps turns must have, on average over a round, to be worth threads.
 const HEAVY: u64 = 160;
 
-/// What a process did in its turn: whether there was nothing that it could do, whether it is a node that has halted, and how many steps it made.
+/// What a process did in its turn: whether it had nothing to do, whether it is a node that has halted, and how many steps it made.
 #[derive(Clone, Copy)]
 pub(crate) struct Did {
     pub(crate) nothing: bool,
@@ -21,7 +21,7 @@ pub(crate) struct Did {
 }
 
 impl Did {
-    /// A turn that was refused.
+    /// What a process did in a turn that was refused: no step, though it had something to do.
     pub(crate) fn refused() -> Did
         ensures { result.nothing ≡ false }
     {
@@ -33,10 +33,15 @@ impl Did {
     }
 }
 
-/// How far turns have come: how many were made, and whose turn is next; how many of the last ones in a row had nothing to do while no snapshot ran; how
-/// many of this round were made while one ran, how many it had, and with how many steps; whether a node has halted; whether the journal had no room for
-/// one more; whether there is more to do than the last round did, so that threads are worth it; and how often the journal was settled since a turn did
-/// something, or a stream moved.
+/// How far turns have come:
+/// - `made`: how many turns were made
+/// - `whose`: whose turn is next
+/// - `idle`: how many of the last turns in a row had nothing to do, while no snapshot ran
+/// - `beside`, `round`, `steps`: how many turns of this round were made while a snapshot ran, how many in all, and with how many steps
+/// - `has_halted`: whether a node has halted
+/// - `is_full`: whether the journal had no room for one more turn
+/// - `is_busy`: whether there is so much more to do that threads are worth it
+/// - `settled`: how often the journal was settled since a turn did something, or an output or input moved
 #[derive(Drop)]
 pub(crate) struct Turns {
     pub(crate) made: u64,
@@ -51,7 +56,7 @@ pub(crate) struct Turns {
     settled: u32,
 }
 
-/// Whose turn comes after that of `whose`: the nodes in order, and then the host.
+/// Gives whose turn comes after that of `whose`: the nodes in order, and then the host.
 fn next_of(whose: u8, nodes: u8) -> u8
     ensures { result ≡ (if nat_lt whose nodes then whose + 1 else 0) }
 {
@@ -59,7 +64,7 @@ fn next_of(whose: u8, nodes: u8) -> u8
 }
 
 impl Turns {
-    /// None was made. `has_halted` says whether a node has halted before.
+    /// Begins with no turn. `has_halted` says whether a node has halted before.
     pub(crate) fn new(has_halted: bool) -> Turns
         ensures whose { result.whose ≡ 0 }
         ensures idle { result.idle ≡ 0 }
@@ -78,7 +83,7 @@ impl Turns {
         }
     }
 
-    /// A round begins.
+    /// Begins a round.
     pub(crate) fn begin(&mut self)
         ensures whose { self.new.whose ≡ self.old.whose }
         ensures idle { self.new.idle ≡ 0 }
@@ -90,8 +95,8 @@ impl Turns {
         self.is_full = false;
     }
 
-    /// A round ends, in which all turns were made that it may have, or fewer. If all were, and had [`HEAVY`] steps in the mean, there is more to
-    /// do that is worth threads, if `may_be` says that there may be any. One that ends since a snapshot runs says nothing of that.
+    /// Ends a round. `were_all` says whether it made all turns that it may have. If it did, threads are worth it if its turns had [`HEAVY`] steps or
+    /// more on average, something is left to do, and `may_be` allows threads. A round that a snapshot cut short changes nothing about that.
     pub(crate) fn end(&mut self, task: Task, nodes: u8, were_all: bool, may_be: bool)
         ensures whose { self.new.whose ≡ self.old.whose }
         ensures idle { self.new.idle ≡ self.old.idle }
@@ -102,7 +107,7 @@ impl Turns {
         self.is_busy = more && (were_all && heavy || !were_all && self.is_busy);
     }
 
-    /// The journal has no room for one more.
+    /// Notes that the journal has no room for one more turn.
     pub(crate) fn fill(&mut self)
         ensures whose { self.new.whose ≡ self.old.whose }
         ensures idle { self.new.idle ≡ self.old.idle }
@@ -110,7 +115,7 @@ impl Turns {
         self.is_full = true;
     }
 
-    /// The journal is settled once more. The turns for that don't count, and are none of those that had nothing to do.
+    /// Notes that the journal is settled once more. The turns for that don't count, not even as turns that had nothing to do.
     pub(crate) fn settle(&mut self)
         ensures whose { self.new.whose ≡ self.old.whose }
         ensures idle { self.new.idle ≡ 0 }
@@ -123,8 +128,8 @@ impl Turns {
         self.settled = self.settled.saturating_add(1);
     }
 
-    /// A turn of `whose` was made, in a network of `nodes` nodes. It is one of those that had nothing to do only if there was
-    /// nothing that the process could do, and no snapshot ran. One that had nothing to do shows of no settling that it wasn't in vain.
+    /// Counts a turn of `whose`, in a network of `nodes` nodes. It is one that had nothing to do only if the process could do nothing, and no
+    /// snapshot ran. Any turn that did something shows that settling wasn't in vain.
     pub(crate) fn count(&mut self, did: Did, is_running: bool, nodes: u8)
         ensures whose { self.new.whose ≡ (if nat_lt self.old.whose nodes then self.old.whose + 1 else 0) }
         ensures rests { 0 < self.new.idle → (did.nothing ≡ true) × (is_running ≡ false) }
@@ -151,8 +156,8 @@ impl Turns {
         }
     }
 
-    /// Workers made `count` turns, in which a node has halted, or none has; `is_idle` says whether they ended since there was nothing to do.
-    /// None of them is one of those that had nothing to do.
+    /// Counts `count` turns that workers made. `has_halted` says whether a node has halted in them, and `is_idle` whether they ended because nothing
+    /// was left to do. None of them counts as one that had nothing to do.
     pub(crate) fn add(&mut self, count: u64, has_halted: bool, is_idle: bool)
         ensures whose { self.new.whose ≡ self.old.whose }
         ensures idle { self.new.idle ≡ 0 }
@@ -165,7 +170,7 @@ impl Turns {
         self.is_busy = self.is_busy && !is_idle;
     }
 
-    /// There are no workers for what is to be done, or not yet: the next round has as many turns as without workers.
+    /// Notes that no workers are there, or not yet. The next round has as many turns as without workers.
     pub(crate) fn stay_alone(&mut self)
         ensures whose { self.new.whose ≡ self.old.whose }
         ensures idle { self.new.idle ≡ self.old.idle }
@@ -173,7 +178,7 @@ impl Turns {
         self.is_busy = false;
     }
 
-    /// A stream has moved, so that settling isn't in vain.
+    /// Notes that an output or input has moved, so that settling wasn't in vain.
     pub(crate) fn moved(&mut self)
         ensures whose { self.new.whose ≡ self.old.whose }
         ensures idle { self.new.idle ≡ self.old.idle }
@@ -182,7 +187,7 @@ impl Turns {
         self.settled = 0;
     }
 
-    /// Whether the journal may still be settled: it was done in vain fewer times than make it full for ever.
+    /// Whether the journal may be settled again: it was settled in vain fewer than [`MOST_SETTLED`] times.
     pub(crate) fn may_settle(&self) -> bool
         ensures { result ≡ nat_lt self.now.settled MOST_SETTLED }
     {
@@ -196,7 +201,7 @@ impl Turns {
         self.idle > u32::from(nodes)
     }
 
-    /// Whether all turns were made that may be. If there is no bound, never.
+    /// Whether all turns were made that the task allows. Without a bound the answer is always `false`.
     pub(crate) fn are_out(&self, task: Task) -> bool
         ensures value { result ≡ is_bound_reached task self.now }
         ensures out { result ≡ true → IsBoundReached task self.now }
@@ -207,7 +212,7 @@ impl Turns {
         }
     }
 
-    /// Whether it is to end since a node has halted.
+    /// Whether the stream ends because a node has halted.
     pub(crate) fn is_stopped(&self, task: Task) -> bool
         ensures { result ≡ (task.stop_on_halt && self.now.has_halted) }
     {
@@ -221,8 +226,8 @@ impl Turns {
         self.are_out(task) || self.is_stopped(task) || self.is_quiet(nodes)
     }
 
-    /// Whether the round is over: no turn may be made, nothing is left to do, or each process has had its turn beside a snapshot, which goes on in
-    /// the flusher's next turn.
+    /// Whether the round is over: no turn may be made, nothing is left to do, or each process has had its turn while a snapshot runs. The snapshot
+    /// then goes on in the flusher's next turn.
     pub(crate) fn is_round_over(&self, task: Task, nodes: u8) -> bool
         ensures { result ≡ (is_done task self.now nodes || nat_lt nodes self.now.beside) }
     {

@@ -1,7 +1,6 @@
 -- Bytes that were appended to an output, part by part.
 use Rattle.std.proofs.Common.{ℕ, ◌+◌, List, [], ◌++◌, take, drop, Option, Some, None, sym, ap, ◌∙◌, append_assoc, append-nil}
-use Rattle.std.proofs.Math.Seq.{take-add}
-use Rattle.std.specs.Io.KnownBytes.{Appends, Keeps}
+use Rattle.tp_stream_files.proofs.Lower.{take-add, Appends, Keeps}
 
 -- nothing yet
 pub none_appended : (was : Option (List ℕ)) → Appends was was []

@@ -1,3 +1,4 @@
+pub mod Lower
 pub mod Fronts
 pub mod Keeping
 pub mod Known

@@ -1,7 +1,6 @@
 -- What a list of calls comes to, once a call more was made.
 use Rattle.std.proofs.Common.{◌≡◌, ◌≤◌, ◌-◌, take, drop, arith, ℕ, ◌+◌, Bool, true, false, ◌||◌, List, [], ◌∷◌, ◌++◌, length, refl, sym, ap, ◌∙◌, append_assoc, append-nil, length-append}
-use Rattle.std.proofs.Math.Seq.{drop-append_seam}
-use Rattle.std.proofs.lemmas.List.{drop_all, drop-drop, drop-take, length-take-le, take-append-le, take-take}
+use Rattle.tp_stream_files.proofs.Lower.{drop-append_seam, drop_all, drop-drop, drop-take, length-take-le, take-append-le, take-take}
 use Rattle.tp_stream_files.specs.Told.{EndTold, Opened, SyncedFolder, Measured, MeasureFailed, HasRead, ReadFailed, Wrote, Synced, Gave, GiveFailed}
 use Rattle.tp_stream_files.specs.Trace.{bytes_given, is_none, says_end, says_failed, GrewAlike}
 

@@ -1,4 +1,4 @@
--- The folder of a path, and that it is synced.
+-- The folder of a path, and calls that sync it.
 use Rattle.std.specs.Prelude.{◌≡◌, ◌⊎◌, ℕ, Bool, true, Some, None, List, [], ◌∷◌, ◌++◌, length, take, if◌then◌else◌, nat_eq}
 use Rattle.std.specs.Str.Pattern.{RFindsChar}
 use Rattle.tp_stream_files.specs.Told.{EndTold, SyncedFolder}
@@ -13,7 +13,7 @@ IsFolder path folder =
     (RFindsChar 47 path None × (folder ≡ 46 ∷ []))
     ⊎ ((i : ℕ) × (j : ℕ) × RFindsChar 47 path (Some (i, j)) × (folder ≡ before_slash (take i path)))
 
--- The folder of a path was asked to be synced, which succeeded or failed. Nothing else was asked.
+-- The only call asked for the folder of a path to be synced, and it succeeded or failed.
 abbrev pub AsksFolder : List ℕ → Bool → List EndTold → List EndTold → Type 0
 AsksFolder path ok old new = (folder : List ℕ) × IsFolder path folder × (new ≡ old ++ SyncedFolder folder ok ∷ [])
 

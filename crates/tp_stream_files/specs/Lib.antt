@@ -1,3 +1,4 @@
+pub mod Lower
 pub mod Any
 pub mod Failing
 pub mod Folders

@@ -1,4 +1,4 @@
--- What an end is that was opened.
+-- What was opened for a port's output or input.
 use Rattle.std.specs.Prelude.{◌≡◌, true, false, List, [], ◌∷◌, ◌++◌, string_bytes}
 use Rattle.tp_stream_files.specs.Named.{is_standard}
 use Rattle.tp_stream_files.specs.Opening.{to_read, to_write}
@@ -10,8 +10,8 @@ use Rattle.tp_stream_files.specs.declared.sinks.AnySink.TheVariants.{File, Out, 
 use Rattle.tp_stream_files.specs.declared.sources.AnySource.{AnySource}
 use Rattle.tp_stream_files.specs.declared.sources.AnySource.TheVariants.{File as FromFile, In}
 
--- What takes an output that goes to an end. A file was opened at that path, measured and synced, and its folder was synced if it is empty. For
--- standard output nothing was asked.
+-- The sink for a port's output. A file was opened at that path, measured and synced, and its folder was synced if it is empty. For standard output no
+-- call was made.
 abbrev pub IsSinkOf : {F O : Type 0} → (calls : F → List EndTold) → PortFile → List EndTold → List EndTold → AnySink F O → Type 0
 IsSinkOf calls end old new (File sink) =
     (is_standard end ≡ false) × (calls sink.file ≡ begin_calls sink.size)
@@ -24,7 +24,7 @@ abbrev pub IsUnread : {F I : Type 0} → AnySource F I → Type 0
 IsUnread (FromFile file) = ⊥
 IsUnread (In pipe) = pipe.held.trace.told ≡ []
 
--- What an input of an end comes from: a file, which was opened at that path; or standard input, with nothing read of it.
+-- The source for a port's input: a file, which was opened at that path; or standard input, with nothing read of it.
 abbrev pub IsSourceOf : {F I : Type 0} → (calls : F → List EndTold) → PortFile → List EndTold → List EndTold → AnySource F I → Type 0
 IsSourceOf calls end old new (FromFile file) =
     (is_standard end ≡ false) × (calls file ≡ []) × (new ≡ old ++ Opened to_read (string_bytes end.path) true ∷ [])

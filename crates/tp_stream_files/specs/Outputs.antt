@@ -2,8 +2,12 @@
 use Rattle.std.specs.Prelude.{◌≡◌, ℕ, ◌+◌, List, length, Option}
 use Rattle.tp_stream_files.specs.Held.{HeldBytes, HasPut}
 
--- The port; up to where its reader says that it has the outputs, up to where they are confirmed, up to where they were put and are safe; and what the
--- sink holds.
+-- An output:
+-- - `port`: its port
+-- - `have`: up to which position its reader says that it has the outputs
+-- - `confirmed`: up to which position they are confirmed
+-- - `next`: up to which position they were put and are safe
+-- - `held`: what the sink holds, if that is known
 pub record OutputValue : Type 0 where
   pub port : ℕ
   pub have : Option ℕ
@@ -11,7 +15,7 @@ pub record OutputValue : Type 0 where
   pub next : ℕ
   pub held : Option HeldBytes
 
--- An output as it is given: its port, up to where its reader says that it has the outputs, and what the sink holds.
+-- An output as it is given: its port, up to which position its reader says that it has the outputs, and what the sink holds.
 pub record Given : Type 0 where
   pub port : ℕ
   pub have : Option ℕ
@@ -20,7 +24,7 @@ pub record Given : Type 0 where
 abbrev pub given_of : OutputValue → Given
 given_of o = record { port = o.port; have = o.have; held = o.held }
 
--- Bytes were put after the earlier ones, and are safe. Nothing was confirmed.
+-- Bytes were put after those before, and are safe. Nothing was confirmed.
 pub record WasPutSafely (bytes : List ℕ) (old new : OutputValue) : Type 0 where
   pub port : new.port ≡ old.port
   pub confirmed : new.confirmed ≡ old.confirmed

@@ -1,10 +1,15 @@
--- What the system was asked of files and feeds, and what it answered.
+-- Calls on files and feeds, and their answers.
 use Rattle.std.specs.Prelude.{ℕ, Bool, List}
 use Rattle.std.specs.declared.fs.options.OpenOptions.{OpenOptions}
 
--- Of files: how one of a path was opened, and whether that succeeded; whether a folder was synced. Of an open file: its length, or a failure; what
--- was read from a place on, or a failure; what was written there, and whether that succeeded; whether it was synced. Of a feed: the bytes that it
--- gave, none at its end, or a failure.
+-- A call, and its answer:
+-- - a file was opened at a path, in some way, and that succeeded or not
+-- - a folder was synced, or not
+-- - an open file's length was asked for, and told or not
+-- - bytes of an open file were read from an offset on, or couldn't be
+-- - bytes were written to an open file at an offset, and that succeeded or not
+-- - an open file was synced, or not
+-- - a feed gave bytes, none at its end, or failed
 pub data EndTold : Type 0 where
   Opened : (how : OpenOptions) → (path : List ℕ) → (ok : Bool) → EndTold
   SyncedFolder : (path : List ℕ) → (ok : Bool) → EndTold

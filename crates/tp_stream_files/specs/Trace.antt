@@ -21,12 +21,12 @@ abbrev pub measured : {E : Type 0} → Result ℕ E → EndTold
 measured (Ok size) = Measured size
 measured (Err e) = MeasureFailed
 
--- the answer to a read from a place on, if `out` is what the buffer holds then
+-- the call that read from an offset on, if `out` is what the buffer has afterwards
 abbrev pub read : {E : Type 0} → ℕ → Result ℕ E → List ℕ → EndTold
 read at (Ok count) out = HasRead at (take count out)
 read at (Err e) out = ReadFailed at
 
--- what a feed answered
+-- the call by which a feed gave what it answered
 abbrev pub gave : {E : Type 0} → Result ℕ E → List ℕ → EndTold
 gave (Ok count) out = Gave (take count out)
 gave (Err e) out = GiveFailed
@@ -54,7 +54,7 @@ says_failed [] = false
 says_failed (GiveFailed ∷ calls) = true
 says_failed (_ ∷ calls) = says_failed calls
 
--- Two lists have grown by just the calls that were made.
+-- Two lists have grown by equal calls.
 abbrev pub GrewAlike : (one one' other other' : List EndTold) → Type 0
 GrewAlike one one' other other' = (calls : List EndTold) × (one' ≡ one ++ calls) × (other' ≡ other ++ calls)
 

@@ -5,20 +5,20 @@ use tp_model::Fault;
 /// Why a stream is over.
 #[derive(Clone, Copy, PartialEq, Eq)]
 pub enum Ending {
-    /// It was to end once nothing is left to do, and nothing is.
+    /// The stream was to end once nothing is left to do, and nothing is.
     Quiet,
-    /// All turns that it was given were made.
+    /// All turns that the stream may have were made.
     Turns,
-    /// Its ends are gone: nothing is left to do and no input can come any more, or whoever takes an output has gone.
+    /// Nothing is left to do and no input can come any more, or whoever takes an output has gone.
     Gone,
-    /// It was to end once a node halts, and one has halted.
+    /// The stream was to end once a node halts, and one has halted.
     Halted,
-    /// It was to end once it is asked to stop, and it was asked.
+    /// The stream was to end once it is asked to stop, and it was asked.
     Stopped,
 }
 
 impl Ending {
-    /// The word for it.
+    /// Gives the word for it.
     pub fn word(self) -> &'static str {
         match self {
             Ending::Quiet => "quiet",
@@ -30,7 +30,7 @@ impl Ending {
     }
 }
 
-/// What a stream came to: the number that the next entry gets, with all entries below stored; and why it is over.
+/// What a stream came to: the number that the next entry gets, and why it is over. All entries below that number are stored.
 #[derive(Clone, Copy, PartialEq, Eq)]
 pub struct Ended {
     pub next: u64,

@@ -1,4 +1,4 @@
-//! What a stream's ports are attached to, by the names of files.
+//! What is typed for a stream's ports: the names of files.
 
 ghost use Rattle.std.specs.Prelude.{◌≡◌};
 ghost use Rattle.tp_stream_files.specs.Named.{standard_port};
@@ -24,14 +24,14 @@ impl PortFile {
     }
 }
 
-/// A port, and up to where its reader has its output.
+/// A port, and up to which position its reader has its output.
 #[derive(Clone, Copy)]
 pub struct PortNumber {
     pub port: u8,
     pub number: u64,
 }
 
-/// The ends of ports: where outputs go, up to where readers say that they have them, ports whose output is discarded, and where inputs come from.
+/// What is typed for ports: the files of outputs, how far readers have them, the ports whose output is discarded, and the files of inputs.
 #[derive(Drop)]
 pub struct Ends {
     pub outs: Vec<PortFile>,
@@ -40,7 +40,7 @@ pub struct Ends {
     pub ins: Vec<PortFile>,
 }
 
-/// The port of the first file that is standard input or output.
+/// Gives the port of the first file that is standard input or output.
 fn standard_of(files: &[PortFile]) -> Option<u8>
     ensures { result ≡ standard_port files.now }
 {
@@ -55,21 +55,21 @@ fn standard_of(files: &[PortFile]) -> Option<u8>
 impl Ends {
     ghost use Rattle.tp_stream_files.specs.Named.{have_in};
 
-    /// The port whose output goes to standard output.
+    /// Gives the port whose output goes to standard output.
     pub fn standard_out(&self) -> Option<u8>
         ensures { result ≡ standard_port self.now.outs.items }
     {
         standard_of(&self.outs)
     }
 
-    /// The port whose input comes from standard input.
+    /// Gives the port whose input comes from standard input.
     pub fn standard_in(&self) -> Option<u8>
         ensures { result ≡ standard_port self.now.ins.items }
     {
         standard_of(&self.ins)
     }
 
-    /// Up to where the reader of a port has its output.
+    /// Gives up to which position the reader of a port has its output.
     pub(crate) fn have_of(&self, port: u8) -> Option<u64>
         ensures { result ≡ have_in self.now.haves.items port }
     {
@@ -82,22 +82,22 @@ impl Ends {
     }
 }
 
-/// Why ends aren't opened.
+/// Why outputs and inputs aren't opened.
 #[derive(Clone, Copy, Error)]
 pub enum EndFault {
-    /// The file that a port's input comes from can't be read.
+    /// The file of a port's input can't be read.
     #[error("ReadFailed")]
     ReadFailed(u8),
-    /// The file that takes a port's output can't be opened to be written, or can't be made.
+    /// The file of a port's output can't be opened to be written, or can't be made.
     #[error("DeviceFailed")]
     DeviceFailed(u8),
-    /// The file that takes a port's output is that of the device, of an input, of another port's output or of standard error.
+    /// The file of a port's output is that of the device, of an input, of another port's output or of standard error.
     #[error("SameFile {0}")]
     SameFile(u8),
-    /// Standard input or output is named for this port and another one.
+    /// Standard input or output was typed for this port and another one.
     #[error("Twice {0}")]
     Twice(u8),
-    /// Memory was refused.
+    /// Out of memory.
     #[error("Memory")]
     Memory,
 }

@@ -10,22 +10,22 @@ use crate::trace::Trace;
 use std::io::{ErrorKind, Read};
 use tp_model::limits::MAX_HELD;
 
-/// Bytes that come once, in order, as those of standard input.
+/// Bytes that come once, in order, such as those of standard input.
 pub trait Feed {
     /// What it has given so far, the oldest first.
     ghost given: { Self → List EndTold };
 
-    /// Whether `next` would wait for bytes that haven't come yet. It waits for them first, for at most `millis` milliseconds.
+    /// Whether `next` would still wait for bytes, after waiting for them for at most `millis` milliseconds.
     fn would_wait(&mut self, millis: u64) -> bool
         ensures { given self.new ≡ given self.old };
 
-    /// Puts the next bytes into `out`, as many as have come, and answers how many: 0 only at the end. It waits until there are some.
+    /// Puts the next bytes that have come into `out`, and answers how many. Waits until there are some; 0 says that it is at the end.
     fn next(&mut self, out: &mut [u8; MAX_HELD]) -> Result<usize, SourceFailed>
         ensures few { IfOk result (λ count. count ≤ length out.new) }
         ensures noted { given self.new ≡ given self.old ++ gave result out.new ∷ [] };
 }
 
-/// The next bytes of a reader. A read that was interrupted is made again.
+/// Reads the next bytes of a reader. Makes an interrupted read again.
 pub(crate) fn read_some<I: Read>(reader: &mut I, out: &mut [u8]) -> Result<usize, SourceFailed>
     ensures few { IfOk result (λ count. count ≤ length out.new) }
     ensures bytes { ReadConsumes (I.remaining reader.old) (I.remaining reader.new) result out.new }
@@ -40,7 +40,7 @@ pub(crate) fn read_some<I: Read>(reader: &mut I, out: &mut [u8]) -> Result<usize
     Err(SourceFailed)
 }
 
-/// A reader that never waits for bytes, as that of a file.
+/// A reader that never waits for bytes, such as a file's.
 #[derive(Drop)]
 pub struct Plain<I: Drop> {
     reader: I,
@@ -48,7 +48,7 @@ pub struct Plain<I: Drop> {
 }
 
 impl<I: Drop> Plain<I> {
-    /// The bytes of a reader.
+    /// Gives the bytes of a reader.
     pub fn new(reader: I) -> Plain<I>
         ensures reader { result.reader ≡ reader }
         ensures none { result.trace.told ≡ [] }

@@ -6,14 +6,14 @@ ghost use Rattle.tp_stream_files.specs.Folders.{AsksFolder, IsFolder, before_sla
 use crate::system::EndFiles;
 use std::io;
 
-/// What is before a path's last slash, or the root if nothing is.
+/// Gives what is before a path's last slash; the root if nothing is.
 fn before_slash(front: &str) -> &str
     ensures { result.now ≡ before_slash front.now }
 {
     if front.is_empty() { "/" } else { front }
 }
 
-/// The folder of a path.
+/// Gives the folder of a path.
 fn folder_of(path: &str) -> &str
     ensures { IsFolder path.now result.now }
 {
@@ -23,8 +23,8 @@ fn folder_of(path: &str) -> &str
     }
 }
 
-/// Syncs the folder of a path, so that a name made in it lasts. It is what is before the path's last slash (the root if nothing is), or the process's
-/// folder if the path has no slash.
+/// Syncs the folder of a path, so that a name made in it lasts. The folder is what is before the path's last slash (the root if nothing is). Without
+/// a slash it is the process's folder.
 pub fn sync_folder_of<S: EndFiles>(files: &mut S, path: &str) -> io::Result<()>
     ensures { AsksFolder path.now (is_ok result) (S.calls files.old) (S.calls files.new) }
 {

@@ -1,4 +1,4 @@
-//! The last bytes that came of a feed, by positions.
+//! The last bytes that a feed gave, by their positions.
 
 ghost use Rattle.std.specs.Prelude.{◌≡◌, ◌+◌, ◌<◌, ◌≤◌, ◌⊎◌, ◌∷◌, [], ◌++◌, true, length, take, drop, is_err, IfOk, IfSome, OnErr, OnOk};
 ghost use Rattle.tp_stream_files.specs.Told.{Gave, GiveFailed};
@@ -10,8 +10,8 @@ use crate::trace::Trace;
 use std::alloc::{AllocError, Global};
 use tp_model::limits::MAX_HELD;
 
-/// The last bytes that came of a feed: they are kept, since a port may have no room for them yet. Those in front of them are gone. They lie in
-/// memory of their own, so that nobody moves them, and a limited stack needs no room for them.
+/// The last bytes that a feed gave. They are kept, since a port may have no room for them yet; those before them are gone. They are in memory of
+/// their own, so that they needn't be moved, and the stack needs no room for them.
 #[derive(Drop)]
 pub(crate) struct Held {
     /// What the feed has given.
@@ -30,7 +30,7 @@ pub(crate) struct Held {
 }
 
 impl Held {
-    /// Nothing has come.
+    /// Begins with no bytes.
     pub(crate) fn new(alloc: Global) -> Result<Held, AllocError>
         ensures { IfOk result (λ held. held.trace.told ≡ []) }
     {
@@ -44,12 +44,12 @@ impl Held {
         })
     }
 
-    /// Whether the byte at a position, or one after it, has come, or no more bytes come.
+    /// Whether the byte at position `at` or one after it has come, or no more bytes come.
     pub(crate) fn is_ready(&self, at: u64) -> bool {
         self.has_ended || self.has_failed || self.from.saturating_add(self.count as u64) > at
     }
 
-    /// The position after all bytes that came; `None` if it is above the greatest number.
+    /// Gives the position after all bytes that came; `None` if that is above the greatest number.
     pub(crate) fn behind(&self) -> Option<u64>
         ensures { IfSome result (λ behind. behind ≡ length (bytes_given self.now.trace.told)) }
     {
@@ -63,7 +63,7 @@ impl Held {
         self.has_failed = true;
     }
 
-    /// Takes what a feed gives next in place of the bytes that are kept; `behind` is the position after them.
+    /// Takes what a feed gives next in place of the bytes that are kept. `behind` is the position after these.
     #[tactic(auto, using(crate::proofs::Traces::none_behind))]
     pub(crate) fn take_next<I: Feed>(&mut self, behind: u64, feed: &mut I)
         requires { behind ≡ length (bytes_given self.old.trace.told) }
@@ -77,7 +77,7 @@ impl Held {
         }
     }
 
-    /// Takes the bytes that a feed gave: the first `count` of `kept`; 0 at the feed's end. No kept byte counts before.
+    /// Takes the bytes that a feed gave: the first `count` of `kept`; 0 says that the feed is at its end. Before that, no kept byte counts.
     #[tactic(auto, using(crate::proofs::Traces::bytes_of_gave, crate::proofs::Traces::says_end_gave, crate::proofs::Traces::says_failed_gave))]
     fn take_bytes(&mut self, count: usize)
         requires few { count ≤ length self.old.kept.value }
@@ -99,8 +99,8 @@ impl Held {
         self.has_failed = true;
     }
 
-    /// Copies the bytes from a position on, as many as are kept and `out` has room for; none at the end. It fails for bytes before those that are
-    /// kept, and for bytes that haven't come.
+    /// Copies the bytes from position `at` on, as many as are kept and `out` has room for; none at the end. Fails if the bytes come before those that
+    /// are kept, or haven't come.
     pub(crate) fn copy(&self, at: u64, out: &mut [u8]) -> Result<usize, SourceFailed>
         ensures few { IfOk result (λ count. count ≤ length out.new) }
         ensures bytes { IfOk result (λ count. take count out.new ≡ take count (drop at (bytes_given self.now.trace.told))) }

@@ -1,4 +1,4 @@
-//! A port's input: read piece by piece.
+//! A port's input, which is read piece by piece.
 
 ghost use Rattle.std.specs.Prelude.{◌≡◌, ◌⊎◌, ◌<◌, ◌≤◌, length, take, true, false, Ok, Some, None, is_some, IfSome, IfNone, IfOk};
 ghost use Rattle.tp_stream_files.specs.Inputs.{AreFrom, EndsThere, HasAtLeast, IsLength, is_over};
@@ -6,7 +6,7 @@ ghost use Rattle.tp_stream_files.specs.Inputs.{AreFrom, EndsThere, HasAtLeast, I
 use crate::source::{Source, SourceFailed};
 use std::marker::Model;
 
-/// A port's whole input and where it comes from, the position of its end once that was found, and whether the port had no room for more.
+/// A port's whole input and its source. It knows the position of its end, once that was found, and whether the port had no room for more.
 #[derive(Drop)]
 pub struct Input<I: Source> {
     port: u8,
@@ -17,7 +17,7 @@ pub struct Input<I: Source> {
 }
 
 impl<I: Source> Input<I> {
-    /// The input of the port `port` from a source.
+    /// Makes the input of the port `port` from a source.
     pub fn new(port: u8, source: I) -> Input<I>
         ensures port { result.port ≡ port }
         ensures source { result.source ≡ source }
@@ -31,7 +31,7 @@ impl<I: Source> Input<I> {
         }
     }
 
-    /// The port.
+    /// Gives the port.
     pub fn port(&self) -> u8
         ensures { result ≡ self.now.port }
     {
@@ -49,15 +49,15 @@ impl<I: Source> Input<I> {
         }
     }
 
-    /// Whether nothing is left that its port may take. If its end was found, none of its bytes is at that position or after it.
+    /// Whether the input has no more bytes that its port may take. If its end was found, it has no byte at that position or after it.
     pub fn is_over(&self) -> bool
         ensures { result ≡ is_over self.now.ended self.now.is_blocked }
     {
         self.ended.is_some() || self.is_blocked
     }
 
-    /// Whether a read would wait for bytes that haven't come yet, if the port has accepted those up to `at`. It waits for them first, for at most
-    /// `millis` milliseconds. After the end no read waits.
+    /// Whether a read would still wait for bytes, after waiting for at most `millis` milliseconds, if the port has accepted the bytes up to `at`.
+    /// After the end no read waits.
     #[tactic(auto, using(crate::proofs::Read::ends_still))]
     pub fn would_wait(&mut self, at: u64, millis: u64) -> bool
         ensures same { (self.new.port ≡ self.old.port) × (I.input self.new.source ≡ I.input self.old.source) }
@@ -75,7 +75,8 @@ impl<I: Source> Input<I> {
         self.is_blocked = is_blocked;
     }
 
-    /// Reads bytes from a position on into `out`, and answers how many: 0 if `out` is empty, or at the end, whose position it keeps.
+    /// Reads bytes from position `at` on into `out`, and answers how many. 0 says that `out` is empty or that this is the end; it keeps the end's
+    /// position.
     #[tactic(auto, using(crate::proofs::Read::none_from, crate::proofs::Read::ends_still, crate::proofs::Read::ends_here))]
     pub fn read(&mut self, at: u64, out: &mut [u8]) -> Result<usize, SourceFailed>
         ensures few { IfOk result (λ count. count ≤ length out.new) }

@@ -1,4 +1,4 @@
-//! The ends of streams: what a stream asks of them, and those on files, and on standard input and output.
+//! The outputs and inputs of streams: what a stream asks of them, and how they are on files and on standard input and output.
 #![tactic(auto)]
 
 mod clock;

@@ -1,4 +1,4 @@
-//! Lines of how far a stream has come: when one is due, and what it says.
+//! Lines about how far a stream has come: when one is due, and what it says.
 
 ghost use Rattle.std.specs.Prelude.{◌≡◌, ◌++◌, ◌*◌, None, IfOk, OnOk, string_bytes};
 ghost use Rattle.tp_stream_files.specs.Lines.{count_part, front_part, growth_part, heard, heard_then, line_due, line_text, line_then, out_part, out_parts, put_before, since_put, standing_part, turns_part};
@@ -17,7 +17,7 @@ pub struct Heard {
     progress: Progress,
 }
 
-/// A line: how far a stream has come, and how far it had come `millis` milliseconds before, at the last line or where lines begin.
+/// A line: how far a stream has come, and how far it had come `millis` milliseconds before, at the last line or at the beginning.
 #[derive(Clone, Copy)]
 pub struct Line {
     told: Progress,
@@ -32,7 +32,7 @@ struct Since {
     millis: u64,
 }
 
-/// Says when lines are due: `every` milliseconds after the last one, or after where lines begin.
+/// Says when lines are due: `every` milliseconds after the last one, or after the beginning.
 #[derive(Clone, Copy)]
 pub struct Meter {
     every: u64,
@@ -40,7 +40,7 @@ pub struct Meter {
 }
 
 impl Meter {
-    /// A line is due each time that `seconds` seconds have gone by. Lines begin with what is heard first.
+    /// Begins: a line is due each time that `seconds` seconds have passed. The time counts from what is heard first.
     pub fn new(seconds: u32) -> Meter
         ensures { result ≡ record { every = seconds * 1000; last = None } }
     {
@@ -50,7 +50,7 @@ impl Meter {
         }
     }
 
-    /// Hears how far a stream has come, and when. Answers the line that is due then, which is the last one from now on.
+    /// Hears how far a stream has come, and when. Answers the line that is due then; the next one counts from this moment.
     pub fn hear(&mut self, at: u64, progress: Progress) -> Option<Line>
         ensures due { result ≡ line_due self.old at progress }
         ensures left { self.new ≡ heard self.old at progress }
@@ -72,7 +72,8 @@ impl Meter {
         })
     }
 
-    /// Hears how far a stream has come, if there is a time. Else no line is due: the next one says what this one would have said, too.
+    /// Hears how far a stream has come, if there is a time. Without a time no line is due, and the next one also covers what this one would have
+    /// said.
     pub fn hear_then(&mut self, at: Option<u64>, progress: Progress) -> Option<Line>
         ensures due { result ≡ line_then self.old at progress }
         ensures left { self.new ≡ heard_then self.old at progress }
@@ -118,7 +119,7 @@ fn push_named(
     push_count(text, now, since)
 }
 
-/// Appends how many entries are durable, how full the journal is, and which checkpoint it belongs to.
+/// Appends how many entries are durable, how full the journal is, and to which checkpoint it belongs.
 fn push_standing(text: &mut String, told: &Progress) -> Result<(), AllocError>
     ensures { OnOk result (string_bytes text.new ≡ string_bytes text.old ++ standing_part told.now) }
 {
@@ -126,7 +127,7 @@ fn push_standing(text: &mut String, told: &Progress) -> Result<(), AllocError>
     write!(text, " mark {mark} area {used}% generation {generation}")
 }
 
-/// Appends how many entries were made, how many of them are durable, how full the journal is, and which checkpoint it belongs to.
+/// Appends how many entries were made, how many of them are durable, how full the journal is, and to which checkpoint it belongs.
 fn push_front(text: &mut String, line: &Line) -> Result<(), AllocError>
     ensures { OnOk result (string_bytes text.new ≡ string_bytes text.old ++ front_part line.now) }
 {
@@ -149,7 +150,7 @@ fn push_turns(text: &mut String, line: &Line) -> Result<(), AllocError>
     push_named(text, " turns ", line.told.turns, Some(since))
 }
 
-/// Up to where the outputs of a port were put, if a sink is for it.
+/// Gives up to which position the outputs of a port were put, if a sink is for it.
 fn put_before(put: &[Option<u64>], port: usize) -> Option<u64>
     ensures { result ≡ put_before put.now port }
 {
@@ -159,7 +160,7 @@ fn put_before(put: &[Option<u64>], port: usize) -> Option<u64>
     }
 }
 
-/// Up to where it was put `millis` milliseconds before.
+/// Gives up to which position they were put `millis` milliseconds before.
 fn since_put(millis: u64, before: Option<u64>) -> Option<Since>
     ensures { result ≡ since_put millis before }
 {
@@ -169,7 +170,7 @@ fn since_put(millis: u64, before: Option<u64>) -> Option<Since>
     }
 }
 
-/// Appends up to where the outputs of a port were put, if a sink is for it.
+/// Appends up to which position the outputs of a port were put, if a sink is for it.
 fn push_out(
     text: &mut String,
     port: usize,
@@ -187,7 +188,7 @@ fn push_out(
     }
 }
 
-/// Appends this for each port.
+/// Appends that for each port.
 fn push_outs(
     text: &mut String,
     put: &[Option<u64>],
@@ -207,7 +208,7 @@ fn push_outs(
     Ok(())
 }
 
-/// Appends the line, without an end.
+/// Appends the line, without its end.
 fn push_line(text: &mut String, line: &Line) -> Result<(), AllocError>
     ensures { OnOk result (string_bytes text.new ≡ string_bytes text.old ++ line_text line.now) }
 {
@@ -216,7 +217,7 @@ fn push_line(text: &mut String, line: &Line) -> Result<(), AllocError>
     push_outs(text, &line.told.put, &line.before.put, line.millis)
 }
 
-/// The line, without an end.
+/// Gives the line, without its end.
 pub(crate) fn text_of(alloc: Global, line: &Line) -> Result<String, AllocError>
     ensures { IfOk result (λ text. string_bytes text ≡ line_text line.now) }
 {

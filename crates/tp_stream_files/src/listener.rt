@@ -1,4 +1,4 @@
-//! What is told of a stream as it goes.
+//! What is told of a stream while it runs.
 
 ghost use Rattle.std.specs.Prelude.{List, [], ◌∷◌, Option, None};
 ghost use Rattle.tp_stream_files.specs.Notices.{Notice, OutputBegins, InputBegins, HasCome, NodeStopped, Noticed};
@@ -19,28 +19,28 @@ pub struct Progress {
     pub generation: u64,
     /// How many turns were made, including refused ones.
     pub turns: u64,
-    /// Up to where each port's outputs were put; `None` if no sink is for it.
+    /// Up to which position each port's outputs were put; `None` if no sink is for it.
     pub put: [Option<u64>; MAX_PORTS],
 }
 
-/// Who is told.
+/// Is told how far a stream has come.
 pub trait Listener {
     /// What it was told, the oldest first, if that is known.
     ghost told: { Self → Option (List Notice) } = { λ _. None };
 
-    /// The first byte that is put of a port's output has this position.
+    /// Hears that the first byte that is put of a port's output has this position.
     fn output(&mut self, port: u8, position: u64)
         ensures { Noticed (OutputBegins port position ∷ []) (told self.old) (told self.new) };
 
-    /// A port has accepted the bytes of its input up to `accepted`.
+    /// Hears that a port has accepted the bytes of its input up to `accepted`.
     fn input(&mut self, port: u8, accepted: u64)
         ensures { Noticed (InputBegins port accepted ∷ []) (told self.old) (told self.new) };
 
-    /// How far it has come. If that is to be told at all, it is told after the flush of each cycle, also while input is awaited.
+    /// Hears how far the stream has come. If the task asks for that, it comes after the flush of each cycle, and while input is awaited.
     fn progress(&mut self, progress: Progress)
         ensures told { Noticed (HasCome progress ∷ []) (told self.old) (told self.new) };
 
-    /// Why a node does nothing at the end, if it has halted, or waits though a port has input that no node has taken. Nodes are told in order.
+    /// Hears why a node does nothing at the end: it has halted, or it waits though a port has input that no node has taken. Nodes come in order.
     fn stopped(&mut self, node: u8, how: Stopped)
         ensures { Noticed (NodeStopped node how ∷ []) (told self.old) (told self.new) };
 }

@@ -1,4 +1,4 @@
-//! A sink in memory. One of its calls may fail.
+//! A sink in memory, for tests. One of its calls may fail.
 
 ghost use Rattle.std.specs.Prelude.{◌≡◌, ◌≤◌, [], ◌++◌, length, take, true, is_ok, None, Some, IfErr, OnOk, OnErr};
 ghost use Rattle.tp_stream_files.specs.Failing.{calls_behind, goes_on};
@@ -12,12 +12,12 @@ use std::alloc::Global;
 pub struct MemSink {
     bytes: Vec<u8>,
     safe: u64,
-    /// How many calls are made before one fails; `None`: no call fails.
+    /// How many calls succeed before one fails. With `None` no call fails.
     calls: Option<u32>,
 }
 
 impl MemSink {
-    /// A sink that has `bytes`, all of them safe.
+    /// Makes a sink that has `bytes`, all of them safe.
     pub fn new(bytes: Vec<u8>) -> MemSink
         ensures { result ≡ record { bytes = bytes; safe = length bytes.items; calls = None } }
     {
@@ -29,14 +29,14 @@ impl MemSink {
         }
     }
 
-    /// No bytes.
+    /// Makes a sink without bytes.
     pub fn empty(alloc: Global) -> MemSink
         ensures { (result.bytes.items ≡ []) × (result.safe ≡ 0) × (result.calls ≡ None) }
     {
         MemSink::new(Vec::new(alloc))
     }
 
-    /// A sink with these bytes that fails one call, once `calls` were made.
+    /// Gives a sink with these bytes that fails one call, after `calls` calls.
     pub fn failing(self, calls: u32) -> MemSink
         ensures { result ≡ record self { calls = Some calls } }
     {
@@ -46,14 +46,14 @@ impl MemSink {
         }
     }
 
-    /// Its bytes.
+    /// Gives its bytes.
     pub fn bytes(&self) -> &[u8]
         ensures { result.now ≡ self.now.bytes.items }
     {
         &self.bytes
     }
 
-    // Whether a call is done.
+    // Whether a call succeeds.
     fn goes(&mut self) -> bool
         ensures goes { result ≡ goes_on self.old.calls }
         ensures left { self.new ≡ record self.old { calls = calls_behind self.old.calls } }

@@ -1,4 +1,4 @@
-//! How ends are opened.
+//! How the files of outputs and inputs are opened.
 
 ghost use Rattle.std.specs.Prelude.{◌≡◌, ◌⊎◌, ◌++◌, ◌∷◌, [], true, map, is_ok, string_bytes, IfErr, IfOk, OnOk};
 ghost use Rattle.tp_stream_files.specs.Named.{inputs_named, is_standard, output_away, output_to, outputs_named};
@@ -22,7 +22,7 @@ use std::fs::{Files, OpenFile, OpenOptions};
 use std::io::Write;
 use std::os::unix::fs::FileExt;
 
-/// Notes an open file as the one that takes the output of `port`. Refuses a file that is noted already, and the one that standard error goes to.
+/// Notes an open file as the one that takes the output of `port`. Fails with `SameFile` if the file is noted already, or is that of standard error.
 fn take_sink<S: Looks, F: EndFile>(
     looks: &S,
     port: u8,
@@ -40,7 +40,7 @@ fn take_sink<S: Looks, F: EndFile>(
     taken.add(numbers)
 }
 
-/// Opens a file that takes an output, or makes it.
+/// Opens the file for an output, or makes it.
 fn open_to_write<S: EndFiles<File = F>, F: EndFile + Drop>(
     files: &mut S,
     end: &PortFile,
@@ -55,7 +55,7 @@ fn open_to_write<S: EndFiles<File = F>, F: EndFile + Drop>(
     }
 }
 
-/// Makes a sink of a file, which is open.
+/// Makes a sink of an open file.
 fn sink_over<S: EndFiles<File = F>, F: EndFile + Drop>(
     files: &mut S,
     end: &PortFile,
@@ -72,8 +72,8 @@ fn sink_over<S: EndFiles<File = F>, F: EndFile + Drop>(
     }
 }
 
-/// Opens a file that takes an output, or makes it. Refuses a file that is noted already or that standard error goes to, and leaves it as it is.
-/// Refuses what is no regular file, too: the system tells no length of a disk, so nothing would tell what is in it.
+/// Opens the file for an output, or makes it. Refuses a file that is noted already or that is standard error's, and leaves it as it is. Also refuses
+/// anything but a regular file: the system doesn't tell the length of a disk, so nothing would tell what is in it.
 fn file_sink<S: EndFiles<File = F> + Looks, F: EndFile + Drop>(
     files: &mut S,
     end: &PortFile,
@@ -92,7 +92,7 @@ fn file_sink<S: EndFiles<File = F> + Looks, F: EndFile + Drop>(
     sink_over(files, end, file)
 }
 
-/// What takes the output of a port: standard output, which only one port may have, or a file.
+/// Gives the sink for the output of a port: standard output, which only one port may have, or a file.
 #[tactic(auto, using(crate::proofs::Keeping::keeps_none))]
 fn sink_at<'a, S: EndFiles<File = F> + Looks, F: EndFile + Drop, O: Write>(
     files: &mut S,
@@ -143,7 +143,7 @@ fn open_to_read<S: EndFiles<File = F>, F: EndFile + Drop>(
     }
 }
 
-/// Opens a file that an input comes from.
+/// Opens the file for an input.
 #[tactic(auto, using(crate::proofs::Keeping::keeps_read))]
 fn file_source<S: EndFiles<File = F>, F: EndFile + Drop>(
     files: &mut S,
@@ -159,7 +159,7 @@ fn file_source<S: EndFiles<File = F>, F: EndFile + Drop>(
     Ok(file)
 }
 
-/// Standard input as a source, which only one port may have.
+/// Gives standard input as a source, which only one port may have.
 fn standard_source<'a, F: EndFile + Drop, I: Feed>(
     alloc: Global,
     port: u8,
@@ -177,7 +177,7 @@ fn standard_source<'a, F: EndFile + Drop, I: Feed>(
     }
 }
 
-/// Where the input of a port comes from: standard input, which only one port may have, or a file.
+/// Gives the source for the input of a port: standard input, which only one port may have, or a file.
 #[tactic(auto, using(crate::proofs::Keeping::keeps_none))]
 fn source_at<'a, S: EndFiles<File = F> + Looks, F: EndFile + Drop, I: Feed>(
     files: &mut S,
@@ -200,7 +200,7 @@ fn source_at<'a, S: EndFiles<File = F> + Looks, F: EndFile + Drop, I: Feed>(
     }
 }
 
-/// Adds what takes an output to `outputs`.
+/// Adds an output with its sink to `outputs`.
 fn add_output<'a, F: EndFile + Drop, O: Write>(
     ends: &Ends,
     end: &PortFile,
@@ -217,7 +217,7 @@ fn add_output<'a, F: EndFile + Drop, O: Write>(
     }
 }
 
-/// Opens what takes an output, and adds it to `outputs`.
+/// Opens the sink for an output, and adds the output to `outputs`.
 fn push_output<'a, S: EndFiles<File = F> + Looks, F: EndFile + Drop, O: Write>(
     files: &mut S,
     ends: &Ends,
@@ -234,7 +234,7 @@ fn push_output<'a, S: EndFiles<File = F> + Looks, F: EndFile + Drop, O: Write>(
     add_output(ends, end, sink, outputs)
 }
 
-/// Opens what takes the outputs of ports, and adds each to `outputs`.
+/// Opens the sinks for the outputs of ports, and adds each output to `outputs`.
 fn push_outputs<'a, S: EndFiles<File = F> + Looks, F: EndFile + Drop, O: Write>(
     files: &mut S,
     ends: &Ends,
@@ -251,7 +251,7 @@ fn push_outputs<'a, S: EndFiles<File = F> + Looks, F: EndFile + Drop, O: Write>(
     Ok(())
 }
 
-/// Adds those whose output is discarded.
+/// Adds the outputs that are discarded.
 fn add_discards<'a, F: EndFile + Drop, O: Write>(
     ends: &Ends,
     outputs: &mut Vec<Output<AnySink<'a, F, O>>>,
@@ -268,7 +268,7 @@ fn add_discards<'a, F: EndFile + Drop, O: Write>(
     Ok(())
 }
 
-/// Adds what takes the outputs of ports, then those whose output is discarded. What standard output goes to is checked once all files are open.
+/// Adds the outputs with their sinks, and then those that are discarded. It checks what standard output is once all files are open.
 fn push_all<'a, S: EndFiles<File = F> + Looks, F: EndFile + Drop, O: Write>(
     files: &mut S,
     ends: &Ends,
@@ -288,7 +288,7 @@ fn push_all<'a, S: EndFiles<File = F> + Looks, F: EndFile + Drop, O: Write>(
     }
 }
 
-/// Opens what takes the outputs of ports, then those whose output is discarded.
+/// Gives the outputs with their sinks, and then those that are discarded.
 fn outputs_of<'a, S: EndFiles<File = F> + Looks, F: EndFile + Drop, O: Write>(
     files: &mut S,
     alloc: Global,
@@ -306,7 +306,7 @@ fn outputs_of<'a, S: EndFiles<File = F> + Looks, F: EndFile + Drop, O: Write>(
     }
 }
 
-/// Adds where the input of `port` comes from to `inputs`.
+/// Adds an input of `port` with its source to `inputs`.
 fn add_input<'a, F: EndFile + Drop, I: Feed>(
     port: u8,
     source: AnySource<'a, F, I>,
@@ -321,7 +321,7 @@ fn add_input<'a, F: EndFile + Drop, I: Feed>(
     }
 }
 
-/// Opens where an input comes from, and adds it to `inputs`.
+/// Opens the source for an input, and adds the input to `inputs`.
 fn push_input<'a, S: EndFiles<File = F> + Looks, F: EndFile + Drop, I: Feed>(
     files: &mut S,
     alloc: Global,
@@ -338,7 +338,7 @@ fn push_input<'a, S: EndFiles<File = F> + Looks, F: EndFile + Drop, I: Feed>(
     add_input(end.port, source, inputs)
 }
 
-/// Opens where the inputs of ports come from, and adds each to `inputs`.
+/// Opens the sources for the inputs of ports, and adds each input to `inputs`.
 fn push_inputs<'a, S: EndFiles<File = F> + Looks, F: EndFile + Drop, I: Feed>(
     files: &mut S,
     alloc: Global,
@@ -356,7 +356,7 @@ fn push_inputs<'a, S: EndFiles<File = F> + Looks, F: EndFile + Drop, I: Feed>(
     Ok(())
 }
 
-/// Opens where the inputs of ports come from.
+/// Opens the sources for the inputs of ports.
 fn inputs_of<'a, S: EndFiles<File = F> + Looks, F: EndFile + Drop, I: Feed>(
     files: &mut S,
     alloc: Global,
@@ -374,7 +374,7 @@ fn inputs_of<'a, S: EndFiles<File = F> + Looks, F: EndFile + Drop, I: Feed>(
     }
 }
 
-/// Opens all ends beside the files that are noted already.
+/// Opens all outputs and inputs, besides the files that are noted already.
 fn open_beside<'a, S: EndFiles<File = F> + Looks, F: EndFile + Drop, I: Feed, O: Write>(
     files: &mut S,
     alloc: Global,
@@ -392,9 +392,9 @@ fn open_beside<'a, S: EndFiles<File = F> + Looks, F: EndFile + Drop, I: Feed, O:
     Ok(Streams { outputs, inputs })
 }
 
-/// Opens all ends; `device` is the path of the device's file. A file that takes an output is made if it doesn't exist. No output goes into the file
-/// of the device, of an input, of another output or of standard error. If that can be told before, no file is made; else each file is compared with
-/// those opened before, and left as it is.
+/// Opens all outputs and inputs; `device` is the path of the device's file. A file for an output is made if it doesn't exist. No output may go into
+/// the file of the device, of an input, of another output or of standard error. If that can be seen before any file is opened, none is made.
+/// Otherwise each file is compared with those opened before it, and refused as it is.
 #[tactic(auto, using(crate::proofs::Keeping::keeps_none))]
 pub fn open_ends_over<'a, S: EndFiles<File = F> + Looks, F: EndFile + Drop, I: Feed, O: Write>(
     files: &mut S,
@@ -416,7 +416,7 @@ pub fn open_ends_over<'a, S: EndFiles<File = F> + Looks, F: EndFile + Drop, I: F
     open_beside(files, alloc, ends, &mut taken, feed, out)
 }
 
-/// Opens all ends on the files of the system.
+/// Opens all outputs and inputs on the files of the system.
 pub fn open_ends<
     'a,
     R: Files<File = F> + StandardStreams + AllocGlobal,

@@ -1,4 +1,4 @@
-//! A port's output: put at its positions, and made safe.
+//! A port's output, which is put at its positions and made safe.
 
 ghost use Rattle.std.specs.Prelude.{◌≡◌, ◌<◌, ◌≤◌, ◌+◌, length, true, is_ok, Some, IfSome, IfNone, OnOk, OnErr};
 ghost use Rattle.tp_stream_files.specs.Held.{HasAtMost, HasLength, HasPut, HasReach, KeepsFront, Reaches};
@@ -7,7 +7,7 @@ ghost use Rattle.tp_stream_files.specs.Outputs.{WasPutSafely};
 use crate::sink::{Sink, SinkFault};
 use std::marker::Model;
 
-/// A port's output and its sink. Confirmed is at most what was put and is safe.
+/// A port's output and its sink. It is never confirmed further than it was put and is safe.
 #[derive(Drop)]
 pub struct Output<S: Sink> {
     port: u8,
@@ -29,7 +29,7 @@ impl<S: Sink> Model for Output<S> {
     ghost invariant = { λ o. (o.confirmed ≤ o.next) × Reaches o.next (S.held o.sink) };
 }
 
-/// Puts bytes and makes them safe. If there are none, no call is made.
+/// Puts bytes and makes them safe. If there are none, it makes no call.
 #[tactic(auto, using(crate::proofs::StreamEndsSinks::none_put, crate::proofs::StreamEndsSinks::none_reaches, crate::proofs::StreamEndsSinks::front_stays))]
 fn put_safe<S: Sink>(sink: &mut S, at: u64, bytes: &[u8]) -> Result<(), SinkFault>
     requires { Reaches at (S.held sink.old) }
@@ -60,8 +60,8 @@ fn excess<S: Sink>(sink: &S, upto: u64) -> Option<u64>
 }
 
 impl<S: Sink> Output<S> {
-    /// The output of the port `port` into a sink. `have` is up to where the sink's reader says that it has it already; `None`: up to where it is
-    /// confirmed.
+    /// Makes the output of the port `port` into a sink. `have` is the position up to which the sink's reader says that it has the output; `None`
+    /// stands for that up to which it is confirmed.
     pub fn new(port: u8, have: Option<u64>, sink: S) -> Output<S>
         ensures { result ≡ record { port = port; have = have; confirmed = 0; next = 0; held = S.held sink } }
     {
@@ -74,28 +74,28 @@ impl<S: Sink> Output<S> {
         }
     }
 
-    /// The port.
+    /// Gives the port.
     pub fn port(&self) -> u8
         ensures { result ≡ self.now.port }
     {
         self.port
     }
 
-    /// Up to where the sink's reader says that it has it.
+    /// Gives the position up to which the sink's reader says that it has the output.
     pub fn have(&self) -> Option<u64>
         ensures { result ≡ self.now.have }
     {
         self.have
     }
 
-    /// Up to where the output was put and is safe.
+    /// Gives the position up to which the output was put and is safe.
     pub fn put(&self) -> u64
         ensures { result ≡ self.now.next }
     {
         self.next
     }
 
-    /// Up to where it is confirmed.
+    /// Gives the position up to which the output is confirmed.
     pub fn confirmed(&self) -> u64
         ensures value { result ≡ self.now.confirmed }
         ensures put { result ≤ self.now.next }
@@ -103,7 +103,7 @@ impl<S: Sink> Output<S> {
         self.confirmed
     }
 
-    /// What always holds: confirmed is at most what was put, and all that was put is safe. It does nothing.
+    /// Promises what is always true: all that was put is safe, and no more than that is confirmed. It does nothing.
     pub fn known(&self)
         ensures confirmed { self.now.confirmed ≤ self.now.next }
         ensures safe { Reaches self.now.next self.now.held }
@@ -111,7 +111,7 @@ impl<S: Sink> Output<S> {
         let _port = self.port;
     }
 
-    /// Its sink.
+    /// Gives its sink.
     pub fn into_sink(self) -> S
         ensures { S.held result ≡ self.held }
     {
@@ -135,7 +135,7 @@ impl<S: Sink> Output<S> {
         excess(&self.sink, upto)
     }
 
-    /// Sets it out: it is confirmed up to `confirmed`, and was put up to `next`.
+    /// Sets the output out: it is confirmed up to `confirmed`, and was put up to `next`.
     pub fn set(&mut self, confirmed: u64, next: u64)
         requires confirmed { confirmed ≤ next }
         requires safe { Reaches next self.old.held }
@@ -157,7 +157,7 @@ impl<S: Sink> Output<S> {
         Ok(())
     }
 
-    /// All that was put is confirmed.
+    /// Notes that all that was put is confirmed.
     pub fn confirm(&mut self)
         ensures { self.new ≡ record self.old { confirmed = self.old.next } }
     {

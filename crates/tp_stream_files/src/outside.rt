@@ -15,7 +15,7 @@ use std::io;
 use std::io::ErrorKind;
 use std::os::unix::fs::FileExt;
 
-/// What opens files of the system.
+/// Opens files of the system.
 #[derive(Drop)]
 pub struct Outside<'r, R> {
     rt: &'r R,
@@ -30,7 +30,7 @@ pub struct OutsideFile<F: Drop> {
 }
 
 impl<'r, R> Outside<'r, R> {
-    /// No call of it was made.
+    /// Begins with no calls.
     pub fn new(rt: &'r R) -> Outside<'r, R>
         ensures { result.trace.told ≡ [] }
     {
@@ -42,7 +42,7 @@ impl<'r, R> Outside<'r, R> {
 }
 
 impl<F: Drop> OutsideFile<F> {
-    /// No call of it was made.
+    /// Takes an open file, with no calls made on it.
     pub(crate) fn new(file: F) -> OutsideFile<F>
         ensures { result.trace.told ≡ [] }
     {
@@ -53,7 +53,7 @@ impl<F: Drop> OutsideFile<F> {
     }
 }
 
-/// Reads bytes of a file from a place on. A read that was interrupted is made again.
+/// Reads bytes of a file from an offset on. Makes an interrupted read again.
 fn read_again<F: FileExt>(file: &F, at: u64, out: &mut [u8]) -> io::Result<usize>
     ensures few { IfOk result (λ count. count ≤ length out.new) }
     ensures again { IfErr result (λ error. error_kind error ≢ ErrorKind.Interrupted) }

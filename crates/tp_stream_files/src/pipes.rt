@@ -1,4 +1,4 @@
-//! A feed by positions.
+//! A feed, by positions.
 
 ghost use Rattle.std.specs.Prelude.{◌≡◌, ◌<◌, ◌≤◌, [], true, length, take, drop, is_err, IfOk};
 ghost use Rattle.tp_stream_files.specs.Trace.{GrewAlike, bytes_given, says_end, says_failed};
@@ -16,7 +16,7 @@ pub struct Pipe<'a, I> {
 }
 
 impl<'a, I: Feed> Pipe<'a, I> {
-    /// Nothing has come.
+    /// Begins with no bytes.
     pub fn new(alloc: Global, feed: &'a mut I) -> Result<Pipe<'a, I>, AllocError>
         ensures { IfOk result (λ pipe. pipe.held.trace.told ≡ []) }
     {
@@ -37,7 +37,7 @@ impl<'a, I: Feed> Pipe<'a, I> {
         self.held.take_next(behind, self.feed);
     }
 
-    /// Takes bytes until the byte at a position is kept, or no more come.
+    /// Takes bytes until the byte at position `at` is kept, or no more come.
     fn reach(&mut self, at: u64)
         ensures { GrewAlike (I.given self.old.feed.now) (I.given self.new.feed.now) self.old.held.trace.told self.new.held.trace.told }
     {
@@ -49,8 +49,8 @@ impl<'a, I: Feed> Pipe<'a, I> {
         }
     }
 
-    /// Whether it would wait for the byte at a position, once it has waited at most `millis` milliseconds for the next piece. It skips earlier bytes:
-    /// after the first piece of these it waits for no other.
+    /// Whether a read would wait for the byte at position `at`, after waiting at most `millis` milliseconds for the next piece. It skips earlier
+    /// bytes: after the first piece of these it waits for no other one.
     pub(crate) fn would_wait_at(&mut self, at: u64, millis: u64) -> bool
         ensures { GrewAlike (I.given self.old.feed.now) (I.given self.new.feed.now) self.old.held.trace.told self.new.held.trace.told }
     {
@@ -68,8 +68,8 @@ impl<'a, I: Feed> Pipe<'a, I> {
         false
     }
 
-    /// Reads bytes from a position on, and skips earlier ones. What it gives is what the feed gave at that position, however that was cut into
-    /// pieces. It gives none only if the feed has ended before the position; it fails once the feed has failed.
+    /// Reads bytes from position `at` on, and skips earlier ones. It gives what the feed gave at that position, however that was cut into pieces. It
+    /// gives none only if the feed has ended before the position, and fails once the feed has failed.
     pub(crate) fn read_from(&mut self, at: u64, out: &mut [u8]) -> Result<usize, SourceFailed>
         ensures grew { GrewAlike (I.given self.old.feed.now) (I.given self.new.feed.now) self.old.held.trace.told self.new.held.trace.told }
         ensures few { IfOk result (λ count. count ≤ length out.new) }

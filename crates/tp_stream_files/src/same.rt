@@ -17,7 +17,7 @@ pub struct FileNumbers {
     pub number: u64,
 }
 
-/// The numbers of a file; `None` if the system tells none.
+/// Gives the numbers of a file; `None` if the system tells none.
 pub fn numbers_in(kept: &Metadata) -> Option<FileNumbers> {
     if kept.ino() == 0 {
         return None;
@@ -39,7 +39,7 @@ pub(crate) fn are_one(one: Option<FileNumbers>, other: Option<FileNumbers>) -> b
     }
 }
 
-/// The numbers of the file that a path names; `None` if there is no file, or the system tells none.
+/// Gives the numbers of the file that a path names; `None` if there is no file, or the system tells none.
 pub(crate) fn numbers_at_path<R: Files>(rt: &R, path: &str) -> Option<FileNumbers> {
     match fs::metadata(rt, path) {
         Ok(kept) => numbers_in(&kept),
@@ -47,7 +47,7 @@ pub(crate) fn numbers_at_path<R: Files>(rt: &R, path: &str) -> Option<FileNumber
     }
 }
 
-/// Whether two paths name one file, as far as the system says: whatever their spelling, and whatever links are between.
+/// Whether two paths name one file, as far as the system says, however they are spelled and whatever links are between.
 pub fn is_one_file<R: Files>(rt: &R, one: &str, other: &str) -> bool
     ensures { one.now ≡ other.now → result ≡ true }
 {
@@ -71,14 +71,14 @@ pub fn is_output_said_over<R: StandardStreams>(rt: &R) -> bool {
     )
 }
 
-/// The files that are noted: an end of the stream has them.
+/// The files that are noted, because an output or input of the stream has them.
 #[derive(Drop)]
 pub(crate) struct Taken {
     files: Vec<FileNumbers>,
 }
 
 impl Taken {
-    /// None is noted.
+    /// Begins with no files.
     pub(crate) fn new(alloc: Global) -> Taken
         ensures { result.files.items ≡ [] }
     {
@@ -113,7 +113,7 @@ impl Taken {
     }
 }
 
-/// The numbers of the file of an end, if it exists; a standard end's file is that of `stream`.
+/// Gives the numbers of the file that was typed for a port, if it exists. If it is standard input or output, that is the file of `stream`.
 fn numbers_of<L: Looks>(looks: &L, end: &PortFile, stream: StandardStream) -> Option<FileNumbers> {
     if end.is_standard() {
         looks.numbers_behind(stream)
@@ -122,13 +122,13 @@ fn numbers_of<L: Looks>(looks: &L, end: &PortFile, stream: StandardStream) -> Op
     }
 }
 
-/// Whether two ends are files of one path.
+/// Whether one path was typed for two ports, and isn't standard input or output.
 fn have_one_path(one: &PortFile, other: &PortFile) -> bool {
     !one.is_standard() && one.path.as_str() == other.path.as_str()
 }
 
-/// Whether an output goes into the file of one of these ends; a standard end's file is that of `stream`. Two outputs that are both standard output
-/// are found elsewhere.
+/// Whether an output goes into one of these files. If one of them is standard input or output, that is the file of `stream`. Two outputs that are
+/// both standard output are found elsewhere.
 fn goes_into<L: Looks>(
     looks: &L,
     end: &PortFile,
@@ -157,8 +157,8 @@ fn goes_elsewhere<L: Looks>(looks: &L, end: &PortFile, device: &str) -> bool {
     is_device || is_path || is_error
 }
 
-/// A port whose output goes into the file of the device, of an input, of another port's output or of standard error, as far as that can be told
-/// before any file is made.
+/// Gives a port whose output goes into the file of the device, of an input, of another port's output or of standard error. It finds what can be seen
+/// before any file is made; else `None`.
 pub(crate) fn same_file<L: Looks>(looks: &L, device: &str, ends: &Ends) -> Option<u8> {
     for (number, end) in ends.outs.iter().enumerate() {
         let before = match ends.outs.get(..number) {

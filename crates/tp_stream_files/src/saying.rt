@@ -1,4 +1,4 @@
-//! How far a stream has come, as it is written.
+//! Writing how far a stream has come.
 
 ghost use Rattle.std.specs.Prelude.{◌≡◌, IfOk, string_bytes};
 ghost use Rattle.tp_stream_files.specs.Said.{AppendsFront, written};
@@ -8,7 +8,7 @@ use crate::writing::write_front;
 use std::alloc::{AllocError, Global};
 use std::io::Write;
 
-/// What is written of a line: over the one before it, in one row of the terminal, however narrow that is; or after the text that is there.
+/// Gives the bytes of a line: over the line before it, in one row of the terminal, however narrow that is; or after the text that is there.
 fn written(alloc: Global, is_over: bool, line: &Line) -> Result<String, AllocError>
     ensures { IfOk result (λ text. string_bytes text ≡ written is_over line.now) }
 {
@@ -20,7 +20,7 @@ fn written(alloc: Global, is_over: bool, line: &Line) -> Result<String, AllocErr
     }
 }
 
-/// Writes a line. If there is no memory for it, or it isn't taken, the line is dropped.
+/// Writes a line. If memory runs out or the write fails, the line is dropped.
 pub(crate) fn say_line<E: Write>(alloc: Global, err: &mut E, is_over: bool, line: &Line)
     ensures { AppendsFront (E.contents err.old) (E.contents err.new) (written is_over line.now) }
 {

@@ -6,15 +6,15 @@ ghost use Rattle.tp_stream_files.specs.Held.{HeldBytes, HasLength, HasPut, HasRe
 /// Why bytes couldn't be put, or couldn't be made safe.
 #[derive(Clone, Copy, PartialEq, Eq)]
 pub enum SinkFault {
-    /// It failed.
+    /// The call failed.
     Failed,
-    /// Whoever takes the bytes has gone, as a pipe's reader.
+    /// Whoever takes the bytes has gone, such as a pipe's reader.
     Gone,
 }
 
-/// What takes a port's output: byte number q of the port at position q.
+/// Takes a port's output: byte number q of the port has position q.
 pub trait Sink {
-    /// What it holds, if that is known.
+    /// What the sink holds, if that is known.
     ghost held: { Self → Option HeldBytes } = { λ _. None };
 
     /// Up to which position it can be put: its bytes before that exist, and are safe.
@@ -26,13 +26,13 @@ pub trait Sink {
     fn length(&self) -> Option<u64>
         ensures { HasLength result (held self.now) };
 
-    /// Puts bytes at a position, over what is there. Whatever it answers, the bytes before them are as they were.
+    /// Puts bytes at position `at`, over what is there. Even if that fails, the bytes before that position are as they were.
     fn put(&mut self, at: u64, bytes: &[u8]) -> Result<(), SinkFault>
         requires { Reaches at (held self.old) }
         ensures put { OnOk result (HasPut at bytes.now (held self.old) (held self.new)) }
         ensures front { KeepsFront at (held self.old) (held self.new) };
 
-    /// Makes all that was put safe: a crash leaves it.
+    /// Makes all that was put safe, so that a crash leaves it.
     fn settle(&mut self) -> Result<(), SinkFault>
         ensures safe { OnOk result (IsSafe (held self.new)) }
         ensures bytes { KeepsBytes (held self.old) (held self.new) };

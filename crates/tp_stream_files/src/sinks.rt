@@ -1,4 +1,4 @@
-//! What takes a port's output in the program: a file, standard output, or nothing.
+//! The sinks of the program: a file, standard output, or nothing.
 
 ghost use Rattle.std.specs.Prelude.{◌≡◌, ◌↔◌, ◌++◌, ◌∷◌, [], true, Err, None, length, is_ok, IfErr, IfOk, OnOk};
 ghost use Rattle.std.specs.IoError.{error_kind};
@@ -25,7 +25,7 @@ pub struct FileSink<F: Drop> {
     size: u64,
 }
 
-/// What takes a port's output.
+/// A sink of the program.
 #[derive(Drop)]
 pub enum AnySink<'a, F: Drop, O> {
     File(FileSink<F>),
@@ -35,7 +35,7 @@ pub enum AnySink<'a, F: Drop, O> {
     Nothing,
 }
 
-/// Syncs the folder of a file that is empty, since it may be new.
+/// Syncs the folder of a file if the file is empty, since it may be new.
 fn sync_new<S: EndFiles>(files: &mut S, path: &str, size: u64) -> io::Result<()>
     ensures kept { KeepsFiles (S.calls files.old) (S.calls files.new) }
     ensures synced { OnOk result (SyncsFolder size path.now (S.calls files.old) (S.calls files.new)) }
@@ -46,7 +46,7 @@ fn sync_new<S: EndFiles>(files: &mut S, path: &str, size: u64) -> io::Result<()>
     sync_folder_of(files, path)
 }
 
-/// How many bytes a file has, once what is in it is synced.
+/// Syncs what is in a file, and answers how many bytes it has.
 fn begin_file<F: EndFile>(file: &mut F) -> io::Result<u64>
     ensures { IfOk result (λ size. F.calls file.new ≡ F.calls file.old ++ begin_calls size) }
 {
@@ -55,7 +55,7 @@ fn begin_file<F: EndFile>(file: &mut F) -> io::Result<u64>
     Ok(size)
 }
 
-/// The file of that path as it is, or an empty one that is made.
+/// Opens the file at that path as it is, or makes an empty one.
 pub(crate) fn file_at<S: EndFiles>(files: &mut S, path: &str) -> io::Result<S::File>
     ensures noted { S.calls files.new ≡ S.calls files.old ++ Opened to_write path.now (is_ok result) ∷ [] }
     ensures fresh { IfOk result (λ file. S.File.calls file ≡ []) }
@@ -64,8 +64,8 @@ pub(crate) fn file_at<S: EndFiles>(files: &mut S, path: &str) -> io::Result<S::F
     files.open(how.read(true).write(true).create(true), path)
 }
 
-/// Why a call on standard output failed. Whoever takes the bytes has gone exactly if nobody reads a pipe any more, or a socket's connection has
-/// ended. A connection that was never made, or that doesn't answer, is a failure.
+/// Gives why a call on standard output failed. Whoever takes the bytes has gone exactly if a pipe has no reader any more, or a socket's connection
+/// has ended. A connection that was never made, or that doesn't answer, is a failure.
 fn fault_of(kind: ErrorKind) -> SinkFault
     ensures { (result ≡ SinkFault.Gone) ↔ SaysGone kind }
 {
@@ -79,7 +79,7 @@ fn fault_of(kind: ErrorKind) -> SinkFault
     }
 }
 
-/// The answer to a call on standard output.
+/// Gives the sink's answer to a call on standard output.
 fn answer(done: io::Result<()>) -> Result<(), SinkFault>
     ensures done { is_ok result ≡ is_ok done }
     ensures kind { IfErr done (λ error. (result ≡ Err SinkFault.Gone) ↔ SaysGone (error_kind error)) }
@@ -90,7 +90,7 @@ fn answer(done: io::Result<()>) -> Result<(), SinkFault>
     }
 }
 
-/// The answer to a call on a file, which has no reader that could go.
+/// Gives the sink's answer to a call on a file, which has no reader that could go.
 fn answer_of_file(done: io::Result<()>) -> Result<(), SinkFault>
     ensures done { is_ok result ≡ is_ok done }
     ensures failed { IfErr result (λ fault. fault ≡ SinkFault.Failed) }
@@ -102,15 +102,15 @@ fn answer_of_file(done: io::Result<()>) -> Result<(), SinkFault>
 }
 
 impl<F: FileExt + OpenFile + Drop> FileSink<OutsideFile<F>> {
-    /// The file of that path as it is, or an empty one that is made.
+    /// Opens the file at that path as it is, or makes an empty one.
     pub fn open<R: Files<File = F>>(rt: &R, path: &str) -> io::Result<FileSink<OutsideFile<F>>> {
         FileSink::open_in(&mut Outside::new(rt), path)
     }
 }
 
 impl<F: EndFile + Drop> FileSink<F> {
-    /// The open file of that path, as it is. What is in it is synced: it counts as safe. If it is empty, its folder is synced, since the file may be
-    /// new.
+    /// Takes the open file of that path, as it is. It syncs what is in the file, which then counts as safe. If the file is empty, it syncs the
+    /// folder, since the file may be new.
     #[tactic(auto, using(crate::proofs::Keeping::keeps_none))]
     pub fn over<S: EndFiles<File = F>>(
         files: &mut S,
@@ -126,7 +126,7 @@ impl<F: EndFile + Drop> FileSink<F> {
         Ok(FileSink { file, size })
     }
 
-    /// The file of that path as it is, or an empty one that is made.
+    /// Opens the file at that path as it is, or makes an empty one.
     pub fn open_in<S: EndFiles<File = F>>(files: &mut S, path: &str) -> io::Result<FileSink<F>>
         ensures kept { KeepsFiles (S.calls files.old) (S.calls files.new) }
         ensures calls { IfOk result (λ sink. F.calls sink.file ≡ begin_calls sink.size) }
@@ -136,14 +136,14 @@ impl<F: EndFile + Drop> FileSink<F> {
         FileSink::over(files, path, file)
     }
 
-    /// How many bytes it has.
+    /// Gives how many bytes the file has.
     pub fn size(&self) -> u64
         ensures { result ≡ self.now.size }
     {
         self.size
     }
 
-    /// Writes over what is at a position. If that fails, the file has as many bytes as before.
+    /// Writes bytes over what is at position `at`. If that fails, the file has as many bytes as before.
     pub fn put(&mut self, at: u64, bytes: &[u8]) -> Result<(), SinkFault>
         ensures calls { F.calls self.new.file ≡ F.calls self.old.file ++ Wrote at bytes.now (is_ok result) ∷ [] }
         ensures size { self.new.size ≡ size_after self.old.size (Wrote at bytes.now (is_ok result)) }

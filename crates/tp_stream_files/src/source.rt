@@ -1,4 +1,4 @@
-//! Where a port's input comes from.
+//! What a port's input is read from.
 
 ghost use Rattle.std.specs.Prelude.{◌≡◌, ◌<◌, ◌≤◌, ℕ, List, length, take, Option, None, IfOk};
 ghost use Rattle.tp_stream_files.specs.Inputs.{AreFrom, IsBehind, IsLength};
@@ -12,16 +12,16 @@ pub trait Source {
     /// All of its bytes, if they are known.
     ghost input: { Self → Option (List ℕ) } = { λ _. None };
 
-    /// How many bytes the whole input has, as of a regular file; `None` if that isn't known.
+    /// How many bytes the whole input has; `None` if that isn't known. It is known of a regular file.
     fn length(&self) -> Option<u64>
         ensures { IsLength result (input self.now) };
 
-    /// Whether a read from this position would wait for bytes that haven't come yet. It waits for them first, for at most `millis` milliseconds.
+    /// Whether a read from position `at` would still wait for bytes, after waiting for at most `millis` milliseconds.
     fn would_wait(&mut self, at: u64, millis: u64) -> bool
         ensures { input self.new ≡ input self.old };
 
-    /// Reads bytes from a position on into `out`, and answers how many: fewer than `out` has if fewer have come, and 0 only at the end. The position
-    /// is that of the last read, or one after it.
+    /// Reads bytes from position `at` on into `out`, and answers how many: fewer than `out` has room for if fewer have come, and 0 only at the end.
+    /// The position is that of the last read, or one after it.
     fn read(&mut self, at: u64, out: &mut [u8]) -> Result<usize, SourceFailed>
         ensures few { IfOk result (λ count. count ≤ length out.new) }
         ensures same { input self.new ≡ input self.old }

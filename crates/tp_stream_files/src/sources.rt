@@ -1,4 +1,4 @@
-//! Where a port's input comes from in the program: a file, or standard input.
+//! The sources of the program: a file, or standard input.
 
 ghost use Rattle.std.specs.Prelude.{◌≡◌, ◌<◌, ◌≤◌, ℕ, List, Option, None, length, take, IfOk};
 ghost use Rattle.tp_stream_files.specs.Inputs.{AreFrom, IsBehind, IsLength};
@@ -8,7 +8,7 @@ use crate::pipes::Pipe;
 use crate::system::EndFile;
 use crate::{Source, SourceFailed};
 
-/// Where a port's input comes from.
+/// A source of the program.
 #[derive(Drop)]
 pub enum AnySource<'a, F: Drop, I> {
     File(F),

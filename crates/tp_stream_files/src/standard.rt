@@ -1,4 +1,4 @@
-//! Which files the standard streams are. Whoever knows says it: on a system without `/dev/stdout` no path does.
+//! Which files the standard streams are. The caller says that: on a system without `/dev/stdout` no path does.
 
 use crate::same::FileNumbers;
 

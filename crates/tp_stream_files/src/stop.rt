@@ -1,4 +1,4 @@
-//! Who may ask a stream to stop.
+//! Asking a stream to stop.
 
 ghost use Rattle.std.specs.Prelude.{◌≡◌, Bool, List, [], ◌∷◌, ◌++◌};
 ghost use Rattle.std.specs.Borrow.{ftrue};
@@ -15,7 +15,7 @@ pub trait Stop {
         ensures { answers self.new ≡ answers self.old ++ result ∷ [] };
 }
 
-/// A list of answers without bytes: contracts alone see it, and no call reads it.
+/// A list of answers that takes no bytes. Contracts see it, and code can't read it.
 #[derive(Drop)]
 pub struct Noted {
     pub ghost told: { List Bool },
@@ -26,7 +26,7 @@ impl Model for Noted {
 }
 
 impl Noted {
-    /// Gives the ghost value `told`, which a contract says by what is lent as `_value`. It does nothing.
+    /// Gives the ghost value `told`, for which a contract uses `_value`. It does nothing.
     pub(crate) fn of<T>(_value: &T) -> Noted
         ghost told: { List Bool }
         ensures { result.told ≡ told }
@@ -34,14 +34,14 @@ impl Noted {
         Noted {}
     }
 
-    /// No answer was given.
+    /// Begins with no answers.
     pub fn new() -> Noted
         ensures { result.told ≡ [] }
     {
         Noted::of(&())
     }
 
-    /// An answer was given.
+    /// Notes that an answer was given.
     pub fn answered(&self, answer: bool) -> Noted
         ensures { result.told ≡ self.now.told ++ answer ∷ [] }
     {

@@ -5,7 +5,7 @@ use crate::output::Output;
 use crate::sink::Sink;
 use crate::source::Source;
 
-/// What takes the output of ports, and where their input comes from.
+/// The outputs of a stream with their sinks, and its inputs with their sources.
 #[derive(Drop)]
 pub struct Streams<S: Sink, I: Source> {
     pub outputs: Vec<Output<S>>,

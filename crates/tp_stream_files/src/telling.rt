@@ -11,8 +11,8 @@ use crate::{Ended, Listener, Output, Progress, Sink, Stopped};
 use std::alloc::Global;
 use std::io::Write;
 
-/// Who says it, which ports are attached to standard output and standard input, and when it says how far the stream has come. Failed writes are
-/// ignored.
+/// Says on standard error how a stream goes. It has the writer, the ports that are attached to standard output and standard input, and when to say
+/// how far the stream has come. It ignores failed writes.
 #[derive(Drop)]
 pub struct Teller<'a, E, W> {
     alloc: Global,
@@ -28,8 +28,8 @@ pub struct Teller<'a, E, W> {
 }
 
 impl<'a, E: Write, W: Onlooker> Teller<'a, E, W> {
-    /// Says it on a writer, and every `seconds` seconds how far the stream has come. On a terminal each line is written over the one before it,
-    /// unless a port puts its output on a terminal.
+    /// Begins to say that on a writer, and how far the stream has come every `seconds` seconds. On a terminal each line is written over the one
+    /// before it, unless a port puts its output on a terminal.
     pub fn new(
         alloc: Global,
         err: &'a mut E,
@@ -63,7 +63,7 @@ impl<'a, E: Write, W: Onlooker> Teller<'a, E, W> {
     }
 }
 
-/// Says where a stream begins, after a word for it, if its port is `mine`. A failed write is ignored.
+/// Says at which position a port's output or input begins, after a word for it, if the port is `mine`. Ignores a failed write.
 fn say_begin<E: Write>(err: &mut E, word: &str, mine: Option<u8>, port: u8, begin: u64) {
     if mine == Some(port) {
         let _ = write!(err, "{word} {port} {begin}\n");
@@ -105,7 +105,7 @@ pub fn say_stopped<E: Write>(err: &mut E, node: u8, how: Stopped) {
     };
 }
 
-/// Says up to where standard output was given an output and that is confirmed, if `out` says that it is this one.
+/// Says up to which position standard output was given an output, and how much of that is confirmed, if `out` says that it is this output.
 fn say_output<S: Sink, E: Write>(err: &mut E, out: Option<u8>, output: &Output<S>) {
     let (written, confirmed) = (output.put(), output.confirmed());
     if out == Some(output.port()) {
@@ -113,7 +113,8 @@ fn say_output<S: Sink, E: Write>(err: &mut E, out: Option<u8>, output: &Output<S
     }
 }
 
-/// Says at which number a stream ended, up to where standard output was given a port's output and that is confirmed, and why it ended.
+/// Says the number of the next entry, up to which position standard output was given a port's output, how much of that is confirmed, and why the
+/// stream ended.
 pub fn say_end<S: Sink, E: Write>(
     err: &mut E,
     ended: Ended,

@@ -1,9 +1,8 @@
-//! Bytes that a thread of its own reads, so that nobody else waits for them.
+//! Bytes that a separate thread reads, so that nobody else waits for them.
 
 ghost use Rattle.std.specs.Prelude.{◌≡◌, ◌↔◌, ◌<◌, ◌≤◌, [], ◌∷◌, ◌++◌, false, true, length, None, Some, Ok, is_err, IfErr, IfNone, IfOk, IfSome};
-ghost use Rattle.std.specs.Io.KnownBytes.{ReadConsumes};
+ghost use Rattle.tp_stream_files.specs.Lower.{ReadConsumes, MAX_HELD};
 ghost use Rattle.tp_stream_files.specs.Trace.{count_answered, gave};
-ghost use Rattle.tp_model.specs.declared.limits.TheConstants.{MAX_HELD};
 
 use crate::SourceFailed;
 use crate::feeds::{Feed, read_some};
@@ -20,7 +19,7 @@ use tp_model::limits::MAX_HELD;
 /// At most this many pieces wait to be taken. The thread has read one more, and waits with it.
 const PIECES: usize = 4;
 
-/// What one read gave: how many bytes, 0 at the end, or a failure; and the bytes, in memory of their own, so that handing a piece on copies none.
+/// What one read gave: how many bytes, 0 at the end, or that it failed. The bytes are in memory of their own, so that passing a piece on copies none.
 #[derive(Drop)]
 struct Piece {
     came: Result<usize, SourceFailed>,
@@ -29,7 +28,7 @@ struct Piece {
     ghost fit: { length bytes.items ≤ MAX_HELD },
 }
 
-/// Reads the next piece. It fails if there is no memory for one: then nothing is read.
+/// Reads the next piece. Fails if there is no memory for one; then nothing is read.
 fn read_piece<I: Read>(alloc: Global, reader: &mut I) -> Piece
     ensures bytes { ReadConsumes (I.remaining reader.old) (I.remaining reader.new) result.came result.bytes.items }
     ensures room { IfOk result.came (λ count. 0 < length result.bytes.items) }
@@ -44,7 +43,7 @@ fn read_piece<I: Read>(alloc: Global, reader: &mut I) -> Piece
     Piece { came, bytes }
 }
 
-/// Whether a piece is the last one that its reader is asked for: it has no byte, at the end or since the read failed.
+/// Whether a piece is the last one that is read: it has no bytes, because its reader is at the end, or the read failed.
 fn is_last(piece: &Piece) -> bool
     ensures { (result ≡ false) ↔ (0 < count_answered piece.now.came) }
 {
@@ -72,7 +71,7 @@ fn send_pieces<R: Wait + AllocGlobal, I: Read + Drop>(rt: &R, reader: I, pieces:
     }
 }
 
-/// Gives what a piece has. No piece is a failure: its reader has gone without a word.
+/// Gives the bytes of a piece. Fails if there is no piece, since its reader has gone without a word.
 fn give(piece: Option<Piece>, out: &mut [u8; MAX_HELD]) -> Result<usize, SourceFailed>
     ensures few { IfOk result (λ count. count ≤ length out.new) }
     ensures piece { IfSome piece (λ piece. (result ≡ piece.came) × (gave result out.new ≡ gave piece.came piece.bytes.items)) }
@@ -86,7 +85,7 @@ fn give(piece: Option<Piece>, out: &mut [u8; MAX_HELD]) -> Result<usize, SourceF
     Ok(count)
 }
 
-/// The next piece, if it comes within `millis` milliseconds; else whether one may come later.
+/// Gives the next piece, if it comes within `millis` milliseconds; else whether one may come later.
 fn receive<R: Wait + Clock>(rt: &R, pieces: &Receiver<Piece>, millis: u64) -> Result<Piece, bool> {
     if millis == 0 {
         return match pieces.try_recv(rt) {
@@ -100,7 +99,7 @@ fn receive<R: Wait + Clock>(rt: &R, pieces: &Receiver<Piece>, millis: u64) -> Re
     }
 }
 
-/// Bytes that a thread of its own reads. It isn't joined, since a read that waits can't be ended.
+/// Bytes that a separate thread reads. The thread isn't joined, since a read that waits can't be ended.
 #[derive(Drop)]
 pub struct Threaded<R: Drop> {
     rt: R,
@@ -125,7 +124,7 @@ fn begin<R: Threads + Wait + AllocGlobal + Copy + Send + 'static, I: Read + Drop
 }
 
 impl<R: Threads + Wait + AllocGlobal + Copy + Drop + Send + 'static> Threaded<R> {
-    /// The bytes of a reader, whose thread is begun; a read fails if there is no reader or no thread.
+    /// Gives the bytes of a reader, and begins its thread. If there is no reader or no thread, each read fails.
     pub fn new<I: Read + Drop + Send + 'static>(rt: R, reader: Option<I>) -> Threaded<R> {
         let pieces = match reader {
             Some(reader) => begin(rt, reader),
@@ -142,7 +141,7 @@ impl<R: Threads + Wait + AllocGlobal + Copy + Drop + Send + 'static> Threaded<R>
 }
 
 impl<R: Wait + Drop> Threaded<R> {
-    /// The next piece, for which it waits.
+    /// Waits for the next piece, and gives it.
     fn take(&mut self) -> Option<Piece>
         ensures same { (self.new.trace.told ≡ self.old.trace.told) × (self.new.is_over ≡ self.old.is_over) }
         ensures ready { IfSome self.old.ready (λ piece. result ≡ Some piece) }
@@ -155,7 +154,7 @@ impl<R: Wait + Drop> Threaded<R> {
         pieces.recv(&self.rt).ok()
     }
 
-    /// Keeps a piece that came until it is taken. Answers whether one may come later, if none came.
+    /// Keeps a piece that came until it is taken. If none came, answers whether one may come later.
     fn keep(&mut self, came: Result<Piece, bool>) -> bool
         ensures piece { IfOk came (λ piece. (result ≡ false) × (self.new ≡ record self.old { ready = Some piece })) }
         ensures none { IfErr came (λ may_come. (result ≡ may_come) × (self.new ≡ self.old)) }
@@ -169,7 +168,7 @@ impl<R: Wait + Drop> Threaded<R> {
         }
     }
 
-    /// Gives the next piece, for which it waits. After the end it gives no bytes.
+    /// Waits for the next piece, and gives its bytes. After the end it gives none.
     fn next_piece(&mut self, out: &mut [u8; MAX_HELD]) -> Result<usize, SourceFailed>
         ensures few { IfOk result (λ count. count ≤ length out.new) }
         ensures same { self.new.trace.told ≡ self.old.trace.told }

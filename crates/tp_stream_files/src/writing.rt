@@ -7,7 +7,7 @@ ghost use Rattle.tp_stream_files.specs.Said.{AppendsFront};
 use std::io;
 use std::io::{ErrorKind, Write};
 
-/// Writes bytes as they are. If that fails, the first ones were taken, and no others. A write that was interrupted is made again.
+/// Writes bytes as they are. If that fails, only some of the first ones were taken. Makes an interrupted write again.
 pub(crate) fn write_front<E: Write>(out: &mut E, bytes: &[u8]) -> io::Result<()>
     ensures all { OnOk result (Appends (E.contents out.old) (E.contents out.new) bytes.now) }
     ensures front { AppendsFront (E.contents out.old) (E.contents out.new) bytes.now }

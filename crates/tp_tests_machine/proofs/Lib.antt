@@ -1,1 +1,2 @@
+pub mod Lower
 mod Taking

@@ -1,17 +1,6 @@
 -- What a node of an image can take, by the ends of its links.
 use Rattle.std.proofs.Common.{◌≡◌, ℕ, zero, suc, ◌+◌, ◌*◌, ◌<◌, ◌&&◌, List, take, drop, bytes_eq, refl, sym, ap, ◌∙◌, arith, Option, Some, None, IsSome, Ok}
-use Rattle.std.specs.List.{slice_get}
-use Rattle.std.proofs.lemmas.Bool.{lt-ltb, cond_both}
-use Rattle.tp_model.specs.declared.link.Token.{Token}
-use Rattle.tp_model.specs.declared.link.Token.TheVariants.{Data, Ack}
-use Rattle.tp_model.specs.declared.limits.TheConstants.{IMAGE_HEAD_BYTES}
-use Rattle.tp_model.specs.EndBytes.{ends_at, out_end_at, in_end_at}
-use Rattle.tp_model.specs.Image.{image_head, is_node, node_at, node_of}
-use Rattle.tp_model.specs.Node.{took_token, took}
-use Rattle.tp_model.specs.NodeState.{NodeState}
-use Rattle.tp_node.proofs.EndsAsBytes.{four_ends_apart}
-use Rattle.tp_node.specs.FromImage.{ReadsImage}
-use Rattle.tp_node.specs.NodeContents.{NodeContents}
+use Rattle.tp_tests_machine.proofs.Lower.{slice_get, lt-ltb, cond_both, Token, Data, Ack, IMAGE_HEAD_BYTES, ends_at, out_end_at, in_end_at, image_head, is_node, node_at, node_of, took_token, took, NodeState, four_ends_apart, ReadsImage, NodeContents}
 
 -- the end of a link is where its bytes are
 pub end_of_link : {End : Type 0} (end_at : List ℕ → End) (at k : ℕ) (bytes : List ℕ) → k < 4

@@ -1,13 +1,7 @@
 -- What tests of all elements say of each.
 use Rattle.std.proofs.Common.{◌≡◌, ℕ, zero, suc, List, [], ◌∷◌, Bool, true, map, sym, ap, subst, ◌∙◌, arith, Some}
 use Rattle.std.specs.Prelude.{slice_get}
-use Rattle.std.specs.List.{list_all}
-use Rattle.std.proofs.lemmas.Bool.{and_parts, ltb-true}
-use Rattle.std.proofs.lemmas.List.Folds.{list_all-map}
-use Rattle.tp_model.specs.NodeState.{NodeState}
-use Rattle.tp_model.specs.Network.{Network}
-use Rattle.tp_book.specs.Ports.{PortValue}
-use Rattle.tp_replay.specs.Flat.{CanCount}
+use Rattle.tp_tests_opening.proofs.Lower.{list_all, and_parts, ltb-true, list_all-map, NodeState, Network, PortValue, CanCount}
 use Rattle.tp_tests_opening.specs.CanCount.{can_count}
 
 passes_at : {A : Type 0} (p : A → Bool) (xs : List A) → list_all p xs ≡ true → (i : ℕ) (x : A) → slice_get xs i ≡ Some x → p x ≡ true

@@ -1,3 +1,4 @@
+pub mod Lower
 pub mod EachPasses
 pub mod Lone
 pub mod Members

@@ -1,27 +1,8 @@
 -- The network without nodes is sound, and a device may leave it.
 use Rattle.std.proofs.Common.{◌≡◌, ℕ, zero, suc, ◌<◌, ◌≤◌, ◌/◌, cond, true, false, List, [], ◌∷◌, length, map, Vec, Global, refl, sym, ap, subst, ◌∙◌, arith, Option, Some, None}
-use Rattle.std.specs.Option.{option_map}
-use Rattle.tp_model.specs.Image.{node_at, node_of}
-use Rattle.tp_model.specs.Node.{t414_ends}
-use Rattle.tp_model.specs.Network.{own, receiver, is_wired, has_wire, line_of, back, on_line}
-use Rattle.tp_model.specs.Sound.{Sound, holds_at}
-use Rattle.std.proofs.lemmas.Bool.{le-ltb}
-use Rattle.tp_tests_opening.specs.Lone.{lone_network, IsUsable}
 use Rattle.std.specs.Prelude.{All, vec_len}
-use Rattle.tp_model.specs.declared.limits.TheConstants.{MAX_HELD}
-use Rattle.tp_model.specs.Node.{t414}
-use Rattle.tp_model.specs.Network.{Port}
-use Rattle.tp_model.specs.Numbers.{AreNumbered}
-use Rattle.tp_model.specs.EntryBytes.{AreOf}
-use Rattle.tp_model.specs.declared.entry.Entry.{Entry}
-use Rattle.tp_model.specs.Order.{after}
-use Rattle.tp_model.specs.Markers.{plain}
-use Rattle.tp_book.specs.declared.state.NetState.{NetState}
-use Rattle.tp_book.specs.Counted.{IsCounted, AreCounted}
-use Rattle.tp_book.specs.Parts.{network_made}
-use Rattle.tp_book.specs.Start.{IsNetwork}
-use Rattle.tp_book.specs.Kept.{AreInRange}
-use Rattle.tp_book.specs.Opened.{IsWellOpen, cut_of, now_of, opened_book}
+use Rattle.tp_tests_opening.proofs.Lower.{option_map, node_at, node_of, t414_ends, own, receiver, is_wired, has_wire, line_of, back, on_line, Sound, holds_at, le-ltb, MAX_HELD, t414, Port, AreNumbered, AreOf, Entry, after, plain, NetState, IsCounted, AreCounted, network_made, IsNetwork, AreInRange, IsWellOpen, cut_of, now_of, opened_book}
+use Rattle.tp_tests_opening.specs.Lone.{lone_network, IsUsable}
 
 no_wire : (x : ℕ) → receiver lone_network.wires x ≡ None
 no_wire zero = refl

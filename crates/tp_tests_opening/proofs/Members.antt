@@ -1,11 +1,7 @@
 -- The pair's parts as they are replayed.
-use Rattle.std.proofs.Common.{◌≡◌, ℕ, suc, zero, ◌<◌, List, [], ◌∷◌, refl, sym, subst, arith, Option, Some, None, slice_index_or, IfOk}
-use Rattle.std.specs.Prelude.{Result, Ok, Err}
-use Rattle.tp_model.specs.declared.entry.Entry.{Entry}
-use Rattle.tp_model.specs.NodeState.{NodeState}
-use Rattle.tp_model.specs.Network.{Network}
-use Rattle.tp_law_network.specs.Piece.{Agrees, Covers}
-use Rattle.tp_pieces.specs.Whole.{EndsAgree, AreWhole}
+use Rattle.std.proofs.Common.{◌≡◌, ℕ, suc, zero, ◌<◌, List, [], ◌∷◌, refl, sym, subst, arith, Option, Some, None, slice_index_or}
+use Rattle.std.specs.Prelude.{IfOk, Result, Ok, Err}
+use Rattle.tp_tests_opening.proofs.Lower.{Entry, NodeState, Network, Agrees, Covers, EndsAgree, AreWhole}
 use Rattle.tp_tests_opening.specs.declared.halted.Member.{Member}
 use Rattle.tp_tests_opening.specs.declared.halted.Member.TheVariants.{Node, Host as OfHost}
 use Rattle.tp_tests_opening.specs.declared.halted.Side.TheVariants.{First, Second}

@@ -1,23 +1,7 @@
 -- The parts of the pair do with each entry what the definitions say.
 use Rattle.std.proofs.Common.{◌≡◌, ℕ, suc, zero, ◌/◌, [], ◌∷◌, length, List, Bool, true, false, cond, inl, inr, refl, sym, ap, ◌∙◌, Option, Some, None, arith, eq-eqb, ne_eqb, MatchBool}
 use Rattle.std.specs.Prelude.{◌==◌, nat_lt}
-use Rattle.std.specs.Option.{option_map}
-use Rattle.std.proofs.lemmas.Bool.{cases_Bool, cases_eq, le-ltb, lt-ltb}
-use Rattle.tp_model.specs.declared.link.Token.{Token}
-use Rattle.tp_model.specs.declared.link.Token.TheVariants.{Data, Ack, Marker}
-use Rattle.tp_model.specs.declared.link.Received.{Received}
-use Rattle.tp_model.specs.declared.entry.Entry.{Entry}
-use Rattle.tp_model.specs.declared.entry.Entry.TheVariants.{Run, Take, HostIn, Confirm, Turn}
-use Rattle.tp_model.specs.NodeState.{NodeState}
-use Rattle.tp_model.specs.Network.{◌>>=◌, steps, Network, OfHost, has_wire, own, put, taken, pushed, sent, same_token}
-use Rattle.tp_model.specs.Turn.{by_link}
-use Rattle.tp_model.specs.Entries.{process, takes, does, of_port, receives, acts}
-use Rattle.tp_model.specs.Step.{step_of}
-use Rattle.tp_model.specs.Node.{t414, node_step, took}
-use Rattle.tp_law_network.specs.Piece.{Piece, from_piece}
-use Rattle.tp_law_network.specs.InPiece.{next_in}
-use Rattle.tp_pieces.specs.Blocked.{IsBlocked}
-use Rattle.tp_pieces.specs.FirstNode.{HasNoNode, IsFirstNode}
+use Rattle.tp_tests_opening.proofs.Lower.{option_map, cases_Bool, cases_eq, le-ltb, lt-ltb, Token, Data, Ack, Marker, Received, Entry, Run, Take, HostIn, Confirm, Turn, NodeState, ◌>>=◌, steps, Network, OfHost, has_wire, own, put, taken, pushed, sent, same_token, by_link, process, takes, does, of_port, receives, acts, step_of, t414, node_step, took, Piece, from_piece, next_in, IsBlocked, HasNoNode, IsFirstNode}
 use Rattle.tp_tests_opening.specs.declared.halted.Side.{Side}
 use Rattle.tp_tests_opening.specs.declared.halted.Side.TheVariants.{First, Second}
 use Rattle.tp_tests_opening.proofs.PairTurns.{became, none_either, host_sends_none, next_in-turn}

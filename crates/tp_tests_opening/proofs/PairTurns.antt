@@ -1,23 +1,7 @@
 -- The parts of the pair do with each turn what the definitions say.
 use Rattle.std.proofs.Common.{◌≡◌, ◌⊎◌, ℕ, ◌<◌, suc, zero, ◌+◌, ◌*◌, append-nil, drop, get_or, take, [], ◌∷◌, ◌++◌, length, map, List, Bool, true, false, cond, inl, inr, refl, sym, ap, subst, ◌∙◌, Option, Some, None, arith, ne_eqb}
 use Rattle.std.specs.Prelude.{◌==◌, ◌&&◌, nat_lt, nat_le}
-use Rattle.std.specs.Option.{option_map}
-use Rattle.std.proofs.lemmas.Bool.{cases_Bool}
-use Rattle.std.proofs.lemmas.List.{append_assoc, drop_more, map-append, take-append-drop, take_more}
-use Rattle.tp_model.specs.declared.link.Token.{Token}
-use Rattle.tp_model.specs.declared.link.Token.TheVariants.{Data, Ack, Marker}
-use Rattle.tp_model.specs.declared.link.Received.{Received}
-use Rattle.tp_model.specs.declared.link.Received.TheVariants.{Nothing, JustData, JustAck, DataThenAck, AckThenData}
-use Rattle.tp_model.specs.declared.entry.Entry.TheVariants.{Turn}
-use Rattle.tp_model.specs.declared.limits.TheConstants.{MAX_STEPS}
-use Rattle.tp_model.specs.NodeState.{NodeState}
-use Rattle.tp_model.specs.Network.{◌>>=◌, steps, Network, Own, OfNode, has_wire, own, put, receiver, taken, sent, same_token}
-use Rattle.tp_model.specs.Turn.{received, by_link, line_from, incoming, by_line, comes_in, took_all, turned}
-use Rattle.tp_model.specs.Entries.{process, takes, of_node, does, acts}
-use Rattle.tp_model.specs.Step.{step_of}
-use Rattle.tp_model.specs.Node.{t414, node_step, took}
-use Rattle.tp_law_network.specs.Piece.{Piece, from_piece}
-use Rattle.tp_law_network.specs.InPiece.{next_in}
+use Rattle.tp_tests_opening.proofs.Lower.{option_map, cases_Bool, append_assoc, drop_more, map-append, take-append-drop, take_more, Token, Data, Ack, Marker, Received, Nothing, JustData, JustAck, DataThenAck, AckThenData, Turn, MAX_STEPS, NodeState, ◌>>=◌, steps, Network, Own, OfNode, has_wire, own, put, receiver, taken, sent, same_token, received, by_link, line_from, incoming, by_line, comes_in, took_all, turned, process, takes, of_node, does, acts, step_of, t414, node_step, took, Piece, from_piece, next_in}
 use Rattle.tp_tests_opening.specs.declared.halted.Side.{Side}
 use Rattle.tp_tests_opening.specs.declared.halted.Side.TheVariants.{First, Second}
 use Rattle.tp_tests_opening.specs.Pair.{pair_wires, pair_network, halted_node, number_of, node_piece, host_piece, host_network, node_after, without_all, all_received, first_received, from_line_of, is_nothing, are_nothing, byte_of, only_byte, after_turn}

@@ -1,20 +1,7 @@
 -- The pair is a sound network, and its parts are the whole of it.
 use Rattle.std.proofs.Common.{◌≡◌, ℕ, suc, zero, ◌+◌, ◌<◌, ◌/◌, [], ◌∷◌, true, false, cond, refl, sym, ap, subst, Some, None, arith}
 use Rattle.std.specs.Prelude.{◌==◌}
-use Rattle.std.proofs.lemmas.Bool.{le-ltb}
-use Rattle.tp_model.specs.declared.wire.WireEnd.TheVariants.{Link}
-use Rattle.tp_model.specs.Network.{own, put, taken, sent, has_wire, receiver, back, on_line}
-use Rattle.tp_model.specs.declared.link.Token.TheVariants.{Data}
-use Rattle.tp_model.specs.declared.entry.Entry.TheVariants.{Take}
-use Rattle.tp_model.specs.Entries.{process, takes, does, receives, next, acts}
-use Rattle.tp_model.specs.Markers.{markers}
-use Rattle.tp_model.specs.Node.{t414, t414_ends, took}
-use Rattle.tp_model.specs.Order.{after}
-use Rattle.tp_model.specs.Sound.{Sound, Wired, holds_at, end_holds, end_waits, datas, acks, owner}
-use Rattle.tp_model.specs.Word.{bit}
-use Rattle.tp_law_network.specs.Piece.{Agrees, Covers, sends}
-use Rattle.tp_law_network.specs.Reach.{reach}
-use Rattle.tp_pieces.specs.Whole.{AreWhole}
+use Rattle.tp_tests_opening.proofs.Lower.{le-ltb, Link, own, put, taken, sent, has_wire, receiver, back, on_line, Data, Take, process, takes, does, receives, next, acts, markers, t414, t414_ends, took, after, Sound, Wired, holds_at, end_holds, end_waits, datas, acks, owner, bit, Agrees, Covers, sends, reach, AreWhole}
 use Rattle.tp_tests_opening.specs.declared.halted.Side.TheVariants.{First, Second}
 use Rattle.tp_tests_opening.specs.Pair.{pair_end, pair_whole, pair_wires, pair_network, node_piece, host_piece, host_network, whole_pieces, whole_parts}
 

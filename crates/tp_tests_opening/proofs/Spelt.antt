@@ -1,12 +1,7 @@
 -- The records of lines, one by one.
-use Rattle.std.proofs.Common.{◌≡◌, ℕ, suc, ◌<◌, ◌+◌, List, [], ◌∷◌, true, length, drop, get_or, refl, ap, ◌∙◌, arith, Option, None}
-use Rattle.std.specs.Prelude.{◌&&◌, Bool, false}
-use Rattle.std.proofs.Math.Seq.{drop-cons}
-use Rattle.tp_model.specs.declared.link.Token.{Token}
-use Rattle.tp_model.specs.declared.wire.WireEnd.{WireEnd}
-use Rattle.tp_model.specs.CutImage.{is_line_of}
-use Rattle.tp_model.specs.Network.{on_line}
-use Rattle.tp_model.specs.Spelling.{are_lines, has_record}
+use Rattle.std.proofs.Common.{◌≡◌, ℕ, suc, ◌<◌, ◌+◌, List, [], ◌∷◌, true, length, drop, get_or, refl, ap, ◌∙◌, arith, Option, None, Bool, false}
+use Rattle.std.specs.Prelude.{◌&&◌}
+use Rattle.tp_tests_opening.proofs.Lower.{drop-cons, Token, WireEnd, is_line_of, on_line, are_lines, has_record}
 
 next : (i : ℕ) → suc i ≡ i + 1
 next i = omega arith

@@ -1,3 +1,4 @@
+pub mod Lower
 pub mod CanCount
 pub mod Lone
 pub mod Member

@@ -1,8 +1,6 @@
 -- A network without nodes, with one port that has no wire.
 use Rattle.std.specs.Prelude.{◌≡◌, ◌<◌, [], ◌∷◌, length, None}
-use Rattle.tp_model.specs.NodeState.{NodeState}
-use Rattle.tp_model.specs.Network.{Network}
-use Rattle.tp_book.specs.Book.{BookValue}
+use Rattle.tp_tests_opening.specs.Lower.{NodeState, Network, BookValue}
 
 -- it holds the outputs "hi"
 abbrev pub lone_network : Network NodeState

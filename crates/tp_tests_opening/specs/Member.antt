@@ -1,7 +1,5 @@
 -- A node's part or the host's: what it has, and its network.
-use Rattle.tp_model.specs.NodeState.{NodeState}
-use Rattle.tp_model.specs.Network.{Network}
-use Rattle.tp_law_network.specs.Piece.{Piece}
+use Rattle.tp_tests_opening.specs.Lower.{NodeState, Network, Piece}
 use Rattle.tp_tests_opening.specs.declared.halted.Member.{Member}
 use Rattle.tp_tests_opening.specs.declared.halted.Member.TheVariants.{Node, Host}
 use Rattle.tp_tests_opening.specs.Pair.{node_piece, pair_network, host_piece, host_network}

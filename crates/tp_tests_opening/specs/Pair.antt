@@ -1,22 +1,6 @@
 -- Two halted nodes, whose first links are wired to each other, and a host without ports: the whole, and its parts.
 use Rattle.std.specs.Prelude.{ℕ, zero, suc, ◌+◌, ◌^◌, Bool, true, false, ◌&&◌, ◌==◌, nat_lt, if◌then◌else◌, List, [], ◌∷◌, ◌++◌, Option, Some, None}
-use Rattle.std.specs.Option.{option_map}
-use Rattle.tp_model.specs.declared.link.Token.{Token}
-use Rattle.tp_model.specs.declared.link.Token.TheVariants.{Data}
-use Rattle.tp_model.specs.declared.link.Received.{Received}
-use Rattle.tp_model.specs.declared.link.Received.TheVariants.{Nothing, JustData, JustAck, DataThenAck, AckThenData}
-use Rattle.tp_model.specs.declared.link.OutEnd.TheVariants.{Waits, Idle as NoOutput}
-use Rattle.tp_model.specs.declared.link.InEnd.TheVariants.{Idle}
-use Rattle.tp_model.specs.declared.wire.WireEnd.{WireEnd}
-use Rattle.tp_model.specs.declared.wire.WireEnd.TheVariants.{Link}
-use Rattle.tp_model.specs.declared.processor.Fault.TheVariants.{UnknownOp}
-use Rattle.tp_model.specs.declared.entry.Entry.{Entry}
-use Rattle.tp_model.specs.declared.entry.Entry.TheVariants.{Run, Take, HostIn, Confirm, Turn}
-use Rattle.tp_model.specs.NodeState.{NodeState}
-use Rattle.tp_model.specs.Network.{◌>>=◌, Network, same_token}
-use Rattle.tp_model.specs.Turn.{received}
-use Rattle.tp_law_machine.specs.Start.{resting, blank, transfer}
-use Rattle.tp_law_network.specs.Piece.{Piece}
+use Rattle.tp_tests_opening.specs.Lower.{option_map, Token, Data, Received, Nothing, JustData, JustAck, DataThenAck, AckThenData, Waits, NoOutput, Idle, WireEnd, Link, UnknownOp, Entry, Run, Take, HostIn, Confirm, Turn, NodeState, ◌>>=◌, Network, same_token, received, resting, blank, transfer, Piece}
 use Rattle.tp_tests_opening.specs.declared.halted.Side.{Side}
 use Rattle.tp_tests_opening.specs.declared.halted.Side.TheVariants.{First, Second}
 

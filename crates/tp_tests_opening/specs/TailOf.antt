@@ -1,10 +1,6 @@
 -- Entries that may be after a cut.
 use Rattle.std.specs.Prelude.{◌≤◌, ℕ, ◌+◌, ◌-◌, List, map, length}
-use Rattle.std.specs.List.{AllByRecursion}
-use Rattle.tp_model.specs.declared.entry.Entry.{Entry}
-use Rattle.tp_model.specs.declared.limits.TheConstants.{NUMBER_LIMIT}
-use Rattle.tp_model.specs.EntryBytes.{IsSpelt}
-use Rattle.tp_model.specs.Numbers.{AreNumbered}
+use Rattle.tp_tests_opening.specs.Lower.{AllByRecursion, Entry, NUMBER_LIMIT, IsSpelt, AreNumbered}
 
 -- they are spelt, and numbered after a cut of `base` entries
 pub record AreTailOf (base : ℕ) (tail : List (Entry × ℕ)) : Type 0 where

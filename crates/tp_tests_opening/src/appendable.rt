@@ -1,8 +1,7 @@
 //! Whether entries may be appended to an area.
 
 ghost use Rattle.std.specs.Prelude.{◌≡◌, true};
-ghost use Rattle.std.specs.List.{AllByRecursion};
-ghost use Rattle.tp_model.specs.EntryBytes.{is_in_range, is_of};
+ghost use Rattle.tp_tests_opening.specs.Lower.{AllByRecursion, is_in_range, is_of};
 
 use tp_entry::{is_in_range, is_of};
 use tp_model::{Entry, Form};

@@ -1,12 +1,7 @@
 //! What a checkpoint puts into the other area, and the calls that put it there and switch to it; and steps on a device.
 
 ghost use Rattle.std.specs.Prelude.{◌≡◌, ◌<◌, ◌&&◌, true, length, OnOk};
-ghost use Rattle.std.specs.Option.{is_some};
-ghost use Rattle.tp_model.specs.CutImage.{is_line_of, is_port_of};
-ghost use Rattle.tp_model.specs.Network.{on_line};
-ghost use Rattle.tp_model.specs.Spelling.{are_lines, has_record};
-ghost use Rattle.tp_book.specs.PortParts.{port_made};
-ghost use Rattle.tp_area.specs.Other.{OtherIsClosed};
+ghost use Rattle.tp_tests_opening.specs.Lower.{is_some, is_line_of, is_port_of, on_line, are_lines, has_record, port_made, OtherIsClosed};
 ghost use Rattle.tp_tests_opening.specs.TailOf.{AreTailOf};
 
 use crate::checkpoints::{Cut, Step};

@@ -1,9 +1,7 @@
 //! A book without nodes: it has one port, which has no wire and holds two outputs.
 
 ghost use Rattle.std.specs.Prelude.{◌≡◌, ◌≤◌, IfOk, All, vec_len};
-ghost use Rattle.tp_model.specs.declared.limits.TheConstants.{MAX_HELD};
-ghost use Rattle.tp_book.specs.Parts.{network_made};
-ghost use Rattle.tp_book.specs.Opened.{IsWellOpen};
+ghost use Rattle.tp_tests_opening.specs.Lower.{MAX_HELD, network_made, IsWellOpen};
 ghost use Rattle.tp_tests_opening.specs.Lone.{lone_network, IsUsable};
 
 use std::alloc::{AllocError, Global};

@@ -1,10 +1,7 @@
 //! The part of a host without ports.
 
 ghost use Rattle.std.specs.Prelude.{◌≡◌, ◌<◌, ◌≤◌, ◌+◌, IsTrue, MatchBool, MatchOption, Some, length};
-ghost use Rattle.tp_model.specs.Node.{t414};
-ghost use Rattle.tp_law_network.specs.InPiece.{next_in};
-ghost use Rattle.tp_pieces.specs.Blocked.{IsBlocked};
-ghost use Rattle.tp_pieces.specs.FirstNode.{HasNoNode, IsFirstNode};
+ghost use Rattle.tp_tests_opening.specs.Lower.{t414, next_in, IsBlocked, HasNoNode, IsFirstNode};
 ghost use Rattle.tp_tests_opening.specs.Pair.{most_entries, host_goes, host_network, host_piece};
 
 use crate::halted::Host;

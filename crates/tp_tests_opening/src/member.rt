@@ -1,10 +1,7 @@
 //! A node's part or the host's.
 
 ghost use Rattle.std.specs.Prelude.{◌≡◌, ◌<◌, ◌≤◌, ◌+◌, IsTrue, MatchBool, MatchOption, Some, length};
-ghost use Rattle.tp_model.specs.Node.{t414};
-ghost use Rattle.tp_law_network.specs.InPiece.{next_in};
-ghost use Rattle.tp_pieces.specs.Blocked.{IsBlocked};
-ghost use Rattle.tp_pieces.specs.FirstNode.{HasNoNode, IsFirstNode};
+ghost use Rattle.tp_tests_opening.specs.Lower.{t414, next_in, IsBlocked, HasNoNode, IsFirstNode};
 ghost use Rattle.tp_tests_opening.specs.Pair.{most_entries};
 ghost use Rattle.tp_tests_opening.specs.Member.{member_network, member_piece};
 

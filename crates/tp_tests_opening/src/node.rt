@@ -1,12 +1,7 @@
 //! The part of a halted node.
 
 ghost use Rattle.std.specs.Prelude.{◌≡◌, ◌<◌, ◌≤◌, ◌+◌, IsTrue, MatchBool, MatchOption, Some, None, length};
-ghost use Rattle.tp_model.specs.declared.entry.Entry.TheVariants.{Take, Turn};
-ghost use Rattle.tp_model.specs.Node.{t414};
-ghost use Rattle.tp_model.specs.Turn.{received};
-ghost use Rattle.tp_law_network.specs.InPiece.{next_in};
-ghost use Rattle.tp_pieces.specs.Blocked.{IsBlocked};
-ghost use Rattle.tp_pieces.specs.FirstNode.{HasNoNode, IsFirstNode};
+ghost use Rattle.tp_tests_opening.specs.Lower.{Take, Turn, t414, received, next_in, IsBlocked, HasNoNode, IsFirstNode};
 ghost use Rattle.tp_tests_opening.specs.Pair.{all_received, are_nothing, byte_of, from_line_of, hold, is_nothing, let_go, most_entries, node_after, node_piece, only_byte, pair_network, without_all};
 
 use crate::halted::{HaltedNode, Side};

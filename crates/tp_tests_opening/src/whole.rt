@@ -1,14 +1,7 @@
 //! The pair as a whole: its parts, replayed.
 
 ghost use Rattle.std.specs.Prelude.{◌≡◌, ℕ, List, [], ◌∷◌, IfOk, None, Some, slice_index_or};
-ghost use Rattle.tp_model.specs.declared.link.Token.TheVariants.{Data};
-ghost use Rattle.tp_model.specs.declared.entry.Entry.TheVariants.{Take};
-ghost use Rattle.tp_model.specs.Entries.{next};
-ghost use Rattle.tp_model.specs.Node.{t414};
-ghost use Rattle.tp_model.specs.Order.{after};
-ghost use Rattle.tp_law_network.specs.Reach.{reach};
-ghost use Rattle.tp_law_network.specs.Readable.{bare};
-ghost use Rattle.tp_pieces.specs.Whole.{EndsAgree, IsStop, AreWhole};
+ghost use Rattle.tp_tests_opening.specs.Lower.{Data, Take, next, t414, after, reach, bare, EndsAgree, IsStop, AreWhole};
 ghost use Rattle.tp_tests_opening.specs.Member.{member_network};
 ghost use Rattle.tp_tests_opening.specs.Pair.{pair_end, pair_whole, whole_parts, whole_pieces};
 

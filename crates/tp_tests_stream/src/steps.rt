@@ -98,14 +98,14 @@ pub(crate) const PLAIN: Step = Step {
 };
 
 impl Step {
-    /// Whether a stream ended so.
+    /// Whether a stream ended as wanted.
     fn is_ended(&self, played: &Played) -> bool {
         let is_why = self.why.is_none() || played.why() == self.why;
         let [first, second] = played.told.stopped;
         is_why && played.done.err() == self.fault && first == self.stopped && second.is_none()
     }
 
-    /// Whether it was told so if the streams of its port begin, and how far it has come.
+    /// Whether it was told as wanted at which positions the output and input of its port begin, and how far it has come.
     fn is_told(&self, played: &Played) -> bool {
         let told = played.told;
         let is_begun = told.output == self.begins && told.input == self.begins;
@@ -114,7 +114,7 @@ impl Step {
         are_turns && told.progress >= self.told && (is_begun || self.begins.is_none())
     }
 
-    /// Whether it left a device that opens so: if the stream ended, if it was done.
+    /// Whether it left a device that opens as wanted. If the stream was done, the next number is the one that it answered.
     fn is_left(&self, played: &Played, left: &Left) -> bool {
         let is_next = match played.next() {
             Some(next) => next == left.next,

@@ -1,15 +1,7 @@
 -- Books of a network of one node and one port.
 use Rattle.std.proofs.Common.{◌≡◌, ℕ, List, refl, sym, subst, arith, Option, Some, None}
 use Rattle.std.specs.Prelude.{Result, Ok, Err, IfOk, Vec}
-use Rattle.std.specs.declared.alloc.Global.{Global}
-use Rattle.tp_model.specs.NodeState.{NodeState}
-use Rattle.tp_model.specs.Network.{Network}
-use Rattle.tp_model.specs.Image.{node_at}
-use Rattle.tp_book.specs.Book.{BookValue}
-use Rattle.tp_book.specs.Start.{IsNetwork, first_book}
-use Rattle.tp_turn.specs.Output.{OutputAs}
-use Rattle.tp_turn.specs.Tried.{fresh_image, lone_network}
-use Rattle.tp_turn.proofs.Begun.{lone_begins}
+use Rattle.tp_tests_threads.proofs.Lower.{Global, NodeState, Network, node_at, BookValue, IsNetwork, first_book, OutputAs, fresh_image, lone_network, lone_begins}
 use Rattle.tp_tests_threads.specs.Usable.{IsLone, IsUsable}
 
 -- an image that was tried is one of a node whose links are idle

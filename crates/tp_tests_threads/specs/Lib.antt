@@ -1,3 +1,4 @@
+pub mod Lower
 pub mod Spelt
 pub mod Unkind
 pub mod Usable

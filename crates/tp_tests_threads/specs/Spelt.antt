@@ -1,9 +1,5 @@
 -- What opening says of a cut.
-use Rattle.std.specs.List.{AllByRecursion}
-use Rattle.tp_law_machine.specs.NodeOfBytes.{IsNodeOfBytes}
-use Rattle.tp_model.specs.Node.{t414_ends}
-use Rattle.tp_model.specs.Opening.{Opened}
-use Rattle.tp_model.specs.Spelling.{IsCut}
+use Rattle.tp_tests_threads.specs.Lower.{AllByRecursion, IsNodeOfBytes, t414_ends, Opened, IsCut}
 
 -- the bytes of a device spell it, and each of its nodes
 abbrev pub IsSpelt : Opened → Type 0

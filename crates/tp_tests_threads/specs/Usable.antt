@@ -1,10 +1,6 @@
 -- A network of one node and one port in which nothing has happened, and its book.
 use Rattle.std.specs.Prelude.{◌≡◌, ◌<◌, false, length, Some, None, slice_get}
-use Rattle.tp_model.specs.NodeState.{NodeState}
-use Rattle.tp_model.specs.Network.{Network}
-use Rattle.tp_book.specs.Book.{BookValue}
-use Rattle.tp_book.specs.Start.{IsFresh}
-use Rattle.tp_turn.specs.Tried.{lone_network}
+use Rattle.tp_tests_threads.specs.Lower.{NodeState, Network, BookValue, IsFresh, lone_network}
 
 -- the network of a node
 pub record IsLone (s : Network NodeState) : Type 0 where

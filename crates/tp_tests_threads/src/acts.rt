@@ -1,8 +1,7 @@
 //! What processes, a host and the flusher do over a device in one thread, act by act, each time as it was told.
 
 ghost use Rattle.std.specs.Prelude.{◌≡◌, ◌<◌, ◌≤◌};
-ghost use Rattle.tp_model.specs.declared.limits.TheConstants.{MAX_STEPS};
-ghost use Rattle.tp_shared.specs.Named.{Names};
+ghost use Rattle.tp_tests_threads.specs.Lower.{MAX_STEPS, Names};
 ghost use Rattle.tp_tests_threads.specs.Spelt.{IsSpelt};
 
 use crate::desk;

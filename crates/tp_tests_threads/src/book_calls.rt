@@ -1,8 +1,7 @@
 //! Calls of a book: if memory runs out, it is as it was, and the call can be made again.
 
 ghost use Rattle.std.specs.Prelude.{IfOk, IfSome};
-ghost use Rattle.tp_book.specs.Opened.{IsWellOpen};
-ghost use Rattle.tp_book.specs.Parts.{network_made};
+ghost use Rattle.tp_tests_threads.specs.Lower.{IsWellOpen, network_made};
 ghost use Rattle.tp_tests_threads.specs.Usable.{IsLone, IsUsable};
 
 use crate::books::{hand_in, lone_net, make_ready, reserve, start};

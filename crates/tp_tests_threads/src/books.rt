@@ -1,9 +1,7 @@
 //! A book of a network of one node, whose link 0 goes to a port.
 
 ghost use Rattle.std.specs.Prelude.{◌≡◌, IfOk, IfSome, OnErr};
-ghost use Rattle.tp_model.specs.Image.{node_at};
-ghost use Rattle.tp_book.specs.Parts.{network_made};
-ghost use Rattle.tp_turn.specs.Tried.{lone_network};
+ghost use Rattle.tp_tests_threads.specs.Lower.{node_at, network_made, lone_network};
 ghost use Rattle.tp_tests_threads.specs.Usable.{IsLone, IsUsable};
 
 use std::alloc::{AllocError, Global};

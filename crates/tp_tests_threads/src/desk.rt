@@ -1,8 +1,7 @@
 //! A network in threads, in one hand. A call that ran out of memory is made again, once it is seen that nothing else came of it.
 
 ghost use Rattle.std.specs.Prelude.{◌≡◌, ◌<◌, ◌≤◌, [], All, IfSome, Some};
-ghost use Rattle.tp_model.specs.declared.limits.TheConstants.{MAX_STEPS};
-ghost use Rattle.tp_shared.specs.Named.{Names};
+ghost use Rattle.tp_tests_threads.specs.Lower.{MAX_STEPS, Names};
 ghost use Rattle.tp_tests_threads.specs.Spelt.{IsSpelt};
 
 use crate::flushing;

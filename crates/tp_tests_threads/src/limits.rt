@@ -1,9 +1,7 @@
 //! The least and the most that a network in threads may begin with.
 
 ghost use Rattle.std.specs.Prelude.{◌≡◌, ◌<◌, ◌≤◌, [], All, IfSome, Some};
-ghost use Rattle.tp_model.specs.declared.limits.TheConstants.{MAX_STEPS};
-ghost use Rattle.tp_shared.specs.Named.{Names};
-ghost use Rattle.tp_work.specs.declared.start.TheConstants.{MAX_SEATS};
+ghost use Rattle.tp_tests_threads.specs.Lower.{MAX_STEPS, Names, MAX_SEATS};
 
 use crate::opening::opening_of;
 use crate::small::{NODES, SIXTEEN, formatted};

@@ -1,15 +1,8 @@
 //! What is made of a device that opened: a network in threads, and its flusher.
 
 ghost use Rattle.std.specs.Prelude.{◌≡◌, ◌<◌, ◌≤◌, [], true, false, Ok, All, IfOk, Some};
-ghost use Rattle.tp_area.specs.Places.{place_at};
-ghost use Rattle.tp_flush.specs.Made.{IsMadeOf};
-ghost use Rattle.tp_model.specs.DiskHistory.{IsSynced};
-ghost use Rattle.tp_model.specs.Journal.{is_roomy, room};
-ghost use Rattle.tp_model.specs.Opening.{verdict};
-ghost use Rattle.tp_model.specs.declared.limits.TheConstants.{MAX_STEPS};
-ghost use Rattle.tp_shared.specs.Named.{Names};
+ghost use Rattle.tp_tests_threads.specs.Lower.{place_at, IsMadeOf, IsSynced, is_roomy, room, verdict, MAX_STEPS, Names, MAX_SEATS};
 ghost use Rattle.tp_tests_threads.specs.Spelt.{IsSpelt};
-ghost use Rattle.tp_work.specs.declared.start.TheConstants.{MAX_SEATS};
 
 use std::alloc::{AllocError, Global};
 use std::snapshot::Snapshot;

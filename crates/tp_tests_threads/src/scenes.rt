@@ -1,9 +1,8 @@
 //! A device in memory with its flusher, beside a node, a host, and teams of workers.
 
 ghost use Rattle.std.specs.Prelude.{◌≡◌, ◌<◌, ◌≤◌, [], All, Some};
-ghost use Rattle.tp_shared.specs.Named.{Names};
+ghost use Rattle.tp_tests_threads.specs.Lower.{Names, MAX_SEATS};
 ghost use Rattle.tp_tests_threads.specs.Spelt.{IsSpelt};
-ghost use Rattle.tp_work.specs.declared.start.TheConstants.{MAX_SEATS};
 
 use crate::beside::{Held, go_on, stores_all};
 use crate::flushing::flush;

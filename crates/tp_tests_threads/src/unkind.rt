@@ -1,8 +1,7 @@
 //! A device in memory that is as unkind as the disk model allows, or that another process writes.
 
 ghost use Rattle.std.specs.Prelude.{◌≡◌, ◌+◌, ◌≤◌, length, take, drop, OnOk, OnErr};
-ghost use Rattle.tp_model.specs.Disk.{Write, Sync, Read, done};
-ghost use Rattle.tp_model.specs.DiskHistory.{MomentPassed, Fails, unknown};
+ghost use Rattle.tp_tests_threads.specs.Lower.{Write, Sync, Read, done, MomentPassed, Fails, unknown};
 ghost use Rattle.tp_tests_threads.specs.Unkind.{no_unkind, unkind_keeps};
 
 use std::alloc::{AllocError, Global};

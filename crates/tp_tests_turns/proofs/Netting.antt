@@ -1,58 +1,7 @@
 -- Nodes at home or away stay so, whatever others do.
-use Rattle.std.proofs.Common.{◌≡◌, ◌≢◌, ℕ, zero, suc, inl, inr, Bool, true, false, cond, ◌+◌, ◌≤◌, List, [], ◌∷◌, ◌++◌, get_or, take, length, map, replicate, set, refl, sym, ap, subst, ◌∙◌, arith, Option, Some, None, slice_get}
-use Rattle.std.specs.Prelude.{◌<◌, is_none, is_some, nat_le, Result, Ok, Err, IfOk, OnErr}
-use Rattle.std.specs.List.{list_all}
-use Rattle.std.proofs.lemmas.Bool.{and_parts, cases_eq}
-use Rattle.std.proofs.lemmas.List.{get_or-replicate, length-replicate, map-append, take_more}
-use Rattle.std.proofs.lemmas.Option.{slice_get-get_or, slice_get_past, slice_get_within}
-use Rattle.tp_model.specs.declared.entry.Entry.{Entry}
-use Rattle.tp_model.specs.declared.entry.Entry.TheVariants.{Take}
-use Rattle.tp_model.specs.declared.form.Form.TheVariants.{Turns}
-use Rattle.tp_model.specs.declared.limits.TheConstants.{MAX_STEPS}
-use Rattle.tp_model.specs.declared.link.Received.{Received}
-use Rattle.tp_model.specs.declared.link.Token.{Token}
-use Rattle.tp_model.specs.declared.link.Token.TheVariants.{Marker}
-use Rattle.tp_model.specs.declared.wire.WireEnd.TheVariants.{Port as AtPort}
-use Rattle.tp_model.specs.NodeState.{NodeState}
-use Rattle.tp_model.specs.Image.{node_of}
-use Rattle.tp_model.specs.Node.{t414}
-use Rattle.tp_model.specs.Network.{steps, receiver, on_line, is_first}
-use Rattle.tp_model.specs.Snapshot.{MarkedNetwork, Snapshot}
-use Rattle.tp_model.specs.WholeCut.{WholeCut, whole, all_some, trimmed}
-use Rattle.tp_model.specs.Runs.{HasCut}
-use Rattle.tp_model.specs.Acts.{Act, Begin, Journal, Close, Trim, acted, happens, trim}
-use Rattle.tp_model.specs.Journal.{is_full_for_snapshot}
-use Rattle.tp_law_machine.specs.NodeOfBytes.{IsNodeOfBytes}
-use Rattle.tp_law_machine.proofs.Partial.{slice_get-set_same, slice_get-set_other}
-use Rattle.tp_law_network.specs.Reserved.{IsReceived}
-use Rattle.tp_node.specs.NodeContents.{NodeContents}
-use Rattle.tp_node.specs.FromImage.{ReadsImage}
-use Rattle.tp_node.proofs.Answered.{image_read, image_thawed}
-use Rattle.tp_book.specs.Acts.{input_acts, confirm_acts}
-use Rattle.tp_book.specs.Needs.{has_recorded_in}
-use Rattle.tp_book.specs.declared.refusal.Refusal.{Refusal}
-use Rattle.tp_book.specs.declared.refusal.Refusal.TheVariants.{JournalFull, StoreBroken, SnapshotRunning}
-use Rattle.tp_book.specs.declared.state.NetState.{NetState}
-use Rattle.tp_book.specs.Book.{BookValue, agreed, nodes_in, world_of}
-use Rattle.tp_book.specs.Calls.{front_of, with_run, without_run, HostTook}
-use Rattle.tp_book.specs.Host.{after_inputs, after_confirm, with_confirmed, port_in}
-use Rattle.tp_book.specs.Kept.{BookKeeps}
-use Rattle.tp_book.specs.Marked.{after_begin, after_close, begin_refusal}
-use Rattle.tp_book.specs.Opened.{IsWellOpen, now_of, opened_book}
-use Rattle.tp_book.specs.Refusals.{else_if, IsAnswer}
-use Rattle.tp_book.specs.Trimmed.{after_trim}
-use Rattle.tp_book.proofs.Commit.{length-agreed}
-use Rattle.tp_book.proofs.Stood.{one_act}
-use Rattle.tp_turn.specs.Hosted.{HostAdded}
-use Rattle.tp_turn.specs.Moments.{Added, IsNodeOf, moment_of}
-use Rattle.tp_turn.specs.Stages.{HasRunOn}
-use Rattle.tp_turn.specs.Whole.{HasTurnedOn, IsOpenWhole}
-use Rattle.tp_turn.specs.declared.receiving.Taken.{Taken}
-use Rattle.tp_turn.proofs.Adding.{others_stay}
-use Rattle.tp_turn.proofs.Ahead.{received_stays, stays_with}
-use Rattle.tp_turn.proofs.Hosting.{nodes_stay, port_taken, port_closed}
-use Rattle.tp_shared.specs.BookActs.{HostActed}
-use Rattle.tp_shared.proofs.Hosting.{hosted_input, hosted_confirm}
+use Rattle.std.proofs.Common.{◌≡◌, ◌≢◌, ℕ, zero, suc, inl, inr, Bool, true, false, cond, ◌+◌, ◌≤◌, List, [], ◌∷◌, ◌++◌, get_or, length, map, replicate, set, refl, sym, ap, subst, ◌∙◌, arith, Option, Some, None, slice_get, ◌<◌}
+use Rattle.std.specs.Prelude.{take, is_none, is_some, nat_le, Result, Ok, Err, IfOk, OnErr}
+use Rattle.tp_tests_turns.proofs.Lower.{list_all, and_parts, cases_eq, get_or-replicate, length-replicate, map-append, take_more, slice_get-get_or, slice_get_past, slice_get_within, Entry, Take, Turns, MAX_STEPS, Received, Token, Marker, AtPort, NodeState, node_of, t414, steps, receiver, on_line, is_first, MarkedNetwork, Snapshot, WholeCut, whole, all_some, trimmed, HasCut, Act, Begin, Journal, Close, Trim, acted, happens, trim, is_full_for_snapshot, IsNodeOfBytes, slice_get-set_same, slice_get-set_other, IsReceived, NodeContents, ReadsImage, image_read, image_thawed, input_acts, confirm_acts, has_recorded_in, Refusal, JournalFull, StoreBroken, SnapshotRunning, NetState, BookValue, agreed, nodes_in, world_of, front_of, with_run, without_run, HostTook, after_inputs, after_confirm, with_confirmed, port_in, BookKeeps, after_begin, after_close, begin_refusal, IsWellOpen, now_of, opened_book, else_if, IsAnswer, after_trim, length-agreed, one_act, HostAdded, Added, IsNodeOf, moment_of, HasRunOn, HasTurnedOn, IsOpenWhole, Taken, others_stay, received_stays, stays_with, nodes_stay, port_taken, port_closed, HostActed, hosted_input, hosted_confirm}
 use Rattle.tp_tests_turns.specs.declared.seat.Away.{Away}
 use Rattle.tp_tests_turns.specs.declared.seat.Seat.{Seat}
 use Rattle.tp_tests_turns.specs.Nets.{HasSeats, IsHome, IsSeated, Leaves, spelt_one, spelt, seen_one, seen}

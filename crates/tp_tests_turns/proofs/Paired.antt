@@ -1,27 +1,6 @@
 -- The network of two nodes and a port is sound before its first entry.
 use Rattle.std.proofs.Common.{◌≡◌, ℕ, zero, suc, ◌%◌, ◌<◌, true, false, List, [], ◌∷◌, refl, ap, subst, sym, ◌∙◌, arith, Option, Some, None, slice_get}
-use Rattle.std.proofs.lemmas.Bool.{and_parts}
-use Rattle.std.specs.List.{list_all}
-use Rattle.tp_model.specs.declared.wire.WireEnd.TheVariants.{Link}
-use Rattle.tp_model.specs.EndBytes.{is_idle_out, is_idle_in}
-use Rattle.tp_model.specs.Format.{fresh_port}
-use Rattle.tp_model.specs.Image.{node_at, has_idle_links}
-use Rattle.tp_model.specs.Markers.{markers}
-use Rattle.tp_model.specs.NodeState.{NodeState}
-use Rattle.tp_model.specs.Node.{t414_ends}
-use Rattle.tp_model.specs.Network.{Network, Own, OfNode, OfHost, own, receiver, has_wire, back, on_line}
-use Rattle.tp_model.specs.Sound.{owner, is_pending, waits_at, holds_at, end_waits, end_holds}
-use Rattle.tp_law_network.proofs.Local.{own_node, own_host}
-use Rattle.tp_law_machine.proofs.Idle.{none_waits, none_holds}
-use Rattle.tp_law_machine.proofs.Images.{node_of_bytes}
-use Rattle.tp_law_machine.proofs.Numbers.{AreBytes}
-use Rattle.tp_law_machine.specs.NodeOfBytes.{IsNodeOfBytes}
-use Rattle.tp_node.specs.NodeContents.{NodeContents}
-use Rattle.tp_book.specs.Book.{BookValue, agreed}
-use Rattle.tp_book.specs.Start.{IsFresh, first_book}
-use Rattle.tp_replay.specs.Flat.{IsFlat}
-use Rattle.tp_turn.specs.Tried.{fresh_image}
-use Rattle.tp_turn.proofs.Begun.{fresh_is, node_of_is, first_agreed}
+use Rattle.tp_tests_turns.proofs.Lower.{and_parts, list_all, Link, is_idle_out, is_idle_in, fresh_port, node_at, has_idle_links, markers, NodeState, t414_ends, Network, Own, OfNode, OfHost, own, receiver, has_wire, back, on_line, owner, is_pending, waits_at, holds_at, end_waits, end_holds, own_node, own_host, none_waits, none_holds, node_of_bytes, AreBytes, IsNodeOfBytes, NodeContents, BookValue, agreed, IsFresh, first_book, IsFlat, fresh_image, fresh_is, node_of_is, first_agreed}
 use Rattle.tp_tests_turns.specs.declared.seat.Seat.{Seat}
 use Rattle.tp_tests_turns.specs.Nets.{pair_network, HasSeats, IsSeated}
 use Rattle.tp_tests_turns.proofs.Netting.{fresh_seat}

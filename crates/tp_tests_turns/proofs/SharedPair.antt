@@ -1,27 +1,7 @@
 -- The network of two nodes of an image is sound before its first entry, and a book of it begins there.
 use Rattle.std.proofs.Common.{◌≡◌, ℕ, zero, suc, ◌%◌, ◌<◌, true, false, List, [], ◌∷◌, refl, sym, ap, subst, ◌∙◌, arith, Option, Some, None, slice_get}
 use Rattle.std.specs.Prelude.{Ok, IsSome, ◌&&◌, bytes_eq, take}
-use Rattle.std.specs.List.{list_all}
-use Rattle.std.proofs.lemmas.Bool.{and_parts}
-use Rattle.std.proofs.lemmas.Option.{cond_some}
-use Rattle.tp_model.specs.declared.wire.WireEnd.TheVariants.{Link}
-use Rattle.tp_model.specs.EndBytes.{is_idle_out, is_idle_in}
-use Rattle.tp_model.specs.Image.{is_node, image_head, node_at, node_of, has_idle_links}
-use Rattle.tp_model.specs.NodeState.{NodeState}
-use Rattle.tp_model.specs.Node.{t414_ends}
-use Rattle.tp_model.specs.Network.{Network, Own, OfNode, OfHost, own, receiver, has_wire, back, on_line}
-use Rattle.tp_model.specs.Order.{after}
-use Rattle.tp_model.specs.Sound.{owner, waits_at, holds_at, end_waits, end_holds}
-use Rattle.tp_law_machine.proofs.Idle.{none_waits, none_holds}
-use Rattle.tp_law_machine.proofs.Images.{node_of_bytes}
-use Rattle.tp_law_machine.proofs.Numbers.{AreBytes}
-use Rattle.tp_law_network.proofs.Local.{own_node, own_host}
-use Rattle.tp_node.specs.NodeContents.{NodeContents}
-use Rattle.tp_node.specs.FromImage.{ReadsImage}
-use Rattle.tp_node.proofs.Answered.{image_read, image_thawed}
-use Rattle.tp_book.specs.Book.{BookValue, agreed}
-use Rattle.tp_book.specs.Start.{IsFresh, first_book}
-use Rattle.tp_turn.specs.Moments.{IsNodeOf}
+use Rattle.tp_tests_turns.proofs.Lower.{list_all, and_parts, cond_some, Link, is_idle_out, is_idle_in, is_node, image_head, node_at, node_of, has_idle_links, NodeState, t414_ends, Network, Own, OfNode, OfHost, own, receiver, has_wire, back, on_line, after, owner, waits_at, holds_at, end_waits, end_holds, none_waits, none_holds, node_of_bytes, AreBytes, own_node, own_host, NodeContents, ReadsImage, image_read, image_thawed, BookValue, agreed, IsFresh, first_book, IsNodeOf}
 use Rattle.tp_tests_turns.specs.SharedPair.{pair_network}
 
 module _ (n : NodeState) (idle : has_idle_links n ≡ true) where

@@ -1,16 +1,6 @@
 -- A network in memory: a book with its nodes, each with its turn if one is open.
 use Rattle.std.specs.Prelude.{◌≡◌, ◌≢◌, ℕ, true, false, List, [], ◌∷◌, ◌++◌, map, replicate, Option, Some, None, slice_get}
-use Rattle.tp_model.specs.declared.form.Form.TheVariants.{Turns}
-use Rattle.tp_model.specs.declared.wire.WireEnd.{WireEnd}
-use Rattle.tp_model.specs.declared.wire.WireEnd.TheVariants.{Link, Port as AtPort}
-use Rattle.tp_model.specs.Format.{fresh_port}
-use Rattle.tp_model.specs.Image.{node_of}
-use Rattle.tp_model.specs.Network.{Network}
-use Rattle.tp_model.specs.NodeState.{NodeState}
-use Rattle.tp_node.specs.NodeContents.{NodeContents}
-use Rattle.tp_book.specs.Book.{BookValue}
-use Rattle.tp_turn.specs.Moments.{IsNodeOf}
-use Rattle.tp_turn.specs.Whole.{HasTurnedOn}
+use Rattle.tp_tests_turns.specs.Lower.{Turns, WireEnd, Link, AtPort, fresh_port, node_of, Network, NodeState, NodeContents, BookValue, IsNodeOf, HasTurnedOn}
 use Rattle.tp_tests_turns.specs.declared.seat.Away.{Away}
 use Rattle.tp_tests_turns.specs.declared.seat.Seat.{Seat}
 

@@ -1,9 +1,6 @@
 -- Two nodes whose links 0 are wired to each other.
 use Rattle.std.specs.Prelude.{List, [], ◌∷◌, replicate, Option, Some, None}
-use Rattle.tp_model.specs.declared.wire.WireEnd.{WireEnd}
-use Rattle.tp_model.specs.declared.wire.WireEnd.TheVariants.{Link}
-use Rattle.tp_model.specs.NodeState.{NodeState}
-use Rattle.tp_model.specs.Network.{Network}
+use Rattle.tp_tests_turns.specs.Lower.{WireEnd, Link, NodeState, Network}
 
 -- line 0 leads to the second node, and line 4 back to the first
 abbrev pub pair_wires : List (Option WireEnd)

@@ -1,10 +1,7 @@
 //! What one node does on a lent book: in one call, or in a turn that is opened by one call and committed by another. Others may act in between.
 
 ghost use Rattle.std.specs.Prelude.{◌≡◌, ◌≤◌, ◌<◌, Some, None};
-ghost use Rattle.tp_model.specs.Network.{receiver};
-ghost use Rattle.tp_model.specs.declared.form.Form.TheVariants.{Turns};
-ghost use Rattle.tp_model.specs.declared.limits.TheConstants.{MAX_STEPS};
-ghost use Rattle.tp_model.specs.declared.wire.WireEnd.TheVariants.{Link};
+ghost use Rattle.tp_tests_turns.specs.Lower.{receiver, Turns, MAX_STEPS, Link};
 ghost use Rattle.tp_tests_turns.specs.Nets.{IsAway, IsHome, IsSeated, Leaves};
 
 use crate::seat::{Away, Seat};

@@ -1,12 +1,7 @@
 //! A whole network in memory, in one thread: its nodes, each with its turn if one is open, and its book.
 
 ghost use Rattle.std.specs.Prelude.{◌≡◌, ℕ, Ok, IfOk, IsSome, is_none, map, None, Some, slice_get, true};
-ghost use Rattle.std.specs.List.{list_all};
-ghost use Rattle.tp_law_machine.specs.NodeOfBytes.{IsNodeOfBytes};
-ghost use Rattle.tp_model.specs.declared.form.Form.TheVariants.{Turns};
-ghost use Rattle.tp_model.specs.NodeState.{NodeState};
-ghost use Rattle.tp_book.specs.Opened.{IsWellOpen, now_of};
-ghost use Rattle.tp_turn.specs.Tried.{ReadsFresh};
+ghost use Rattle.tp_tests_turns.specs.Lower.{list_all, IsNodeOfBytes, Turns, NodeState, IsWellOpen, now_of, ReadsFresh};
 ghost use Rattle.tp_tests_turns.specs.Nets.{seen, spelt};
 
 use crate::deeds::Deed;

@@ -1,9 +1,7 @@
 //! Two nodes and a port, before the first entry.
 
 ghost use Rattle.std.specs.Prelude.{◌≡◌, IfOk, None};
-ghost use Rattle.tp_model.specs.Image.{node_at};
-ghost use Rattle.tp_book.specs.Parts.{network_made};
-ghost use Rattle.tp_replay.specs.Flat.{IsFlat};
+ghost use Rattle.tp_tests_turns.specs.Lower.{node_at, network_made, IsFlat};
 ghost use Rattle.tp_tests_turns.specs.Nets.{pair_network};
 
 use crate::replayed::Flat;

@@ -1,9 +1,7 @@
 //! Two nodes of one image, whose links 0 are wired to each other.
 
 ghost use Rattle.std.specs.Prelude.{◌≡◌, Ok, true, length, IfOk, IfSome};
-ghost use Rattle.tp_book.specs.Parts.{network_made};
-ghost use Rattle.tp_model.specs.Image.{node_at, node_of, has_idle_links};
-ghost use Rattle.tp_node.specs.FromImage.{ReadsImage};
+ghost use Rattle.tp_tests_turns.specs.Lower.{network_made, node_at, node_of, has_idle_links, ReadsImage};
 ghost use Rattle.tp_tests_turns.specs.SharedPair.{pair_network};
 
 use std::alloc::{AllocError, Global};

@@ -1,9 +1,7 @@
 //! Two workers, each with a seat of its own.
 
 ghost use Rattle.std.specs.Prelude.{◌≡◌, ◌<◌, ◌≤◌, ℕ, length, IfSome};
-ghost use Rattle.tp_model.specs.declared.limits.TheConstants.{MAX_STEPS};
-ghost use Rattle.tp_shared.specs.Named.{Names};
-ghost use Rattle.tp_token.specs.Sound.{shown, item_of};
+ghost use Rattle.tp_tests_turns.specs.Lower.{MAX_STEPS, Names, shown, item_of};
 
 use std::marker::Brand;
 use std::sync::Wait;

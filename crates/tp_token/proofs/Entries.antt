@@ -5,21 +5,13 @@
 --     differ        two slips are of two numbers
 -- Assumes `Logic`.
 use Rattle.std.proofs.Common.{◌≡◌, ℕ, [], ◌∷◌, sym, refl, subst}
-use mathlib.Core.Path.{Path}
-use mathlib.Core.Logic.{dite}
-use mathlib.Mathlib.Data.Part.{◌∈◌}
-use native.Mathlib.Decide.{ℕ_discrete}
+use Rattle.tp_token.proofs.Lower.{Path, dite, ◌∈◌, ℕ_discrete}
 use seplogic.Ra.Ura.{Ura}
 use seplogic.Ra.Constructions.Prod
 use seplogic.Ra.Instances.Ag
-use base.Fraction.{full_share}
-use base.FractionLaws.{not-OpDef-full_share}
-use base.Share.{quarter, three_quarters, quarters, three_quarters_once}
+use Rattle.tp_token.proofs.Lower.{full_share, not-OpDef-full_share, quarter, three_quarters, quarters, three_quarters_once}
 use base.Share
-use base.Stored.{Gv}
-use base.SetCodes.{coded, SetCoded-set}
-use base.Logic.{SProp, ent, sep, ex, guard, upd, via, ex_e, guard_e, guard_i, upd_mono}
-use base.Fml.{Share, Fml}
+use Rattle.tp_token.proofs.Lower.{Gv, coded, SetCoded-set, SProp, ent, sep, ex, guard, upd, via, ex_e, guard_e, guard_i, upd_mono, Share, Fml}
 use types.Logic.{Logic, sem}
 use types.Keyed.{entry, entry_cut, entry_glue, entry_set}
 use types.Kit.{‵, ◌⊛◌, given, ◌$◌, ◌∵◌, !, qed, split, learn, check, done, use1, use2, rewrite}

@@ -7,11 +7,10 @@
 --     makes       a token is made of what it is for, since its field has no bytes        token     its machine value
 -- Assumes `Logic`.
 use Rattle.std.proofs.Common.{◌≡◌, List, [], ◌∷◌, refl, sym, MutBor}
+use Rattle.tp_token.proofs.Lower.{SProp, ent, id⊢, sep, emp, guard, Fml, Lft, Share, fsep, fobs, fbor, flft}
 use seplogic.Ra.Ura.{Ura}
 use mir.Syntax.{Lifetime}
 use mir.Val.{Val, vstruct, vcons, vnil}
-use base.Logic.{SProp, ent, id⊢, sep, emp, guard}
-use base.Fml.{Fml, Lft, Share, fsep, fobs, fbor, flft}
 use contract.Monad.{fact, fact_i}
 use types.Logic.{Logic, sem}
 use types.SemTy.{Body}

@@ -1,3 +1,4 @@
+pub mod Lower
 pub mod Lent
 pub mod Walks
 pub mod Twins

@@ -4,18 +4,9 @@
 --     roll_keyless, slips_keyless        what they own is of no thread
 -- Assumes `Logic`.
 use Rattle.std.proofs.Common.{◌≡◌, ℕ, zero, suc, ◌+◌, List, [], ◌∷◌, ◌++◌, length, take, drop, sym, refl, ap, subst, arith}
-use Rattle.std.specs.List.{enumerate_from}
-use Rattle.std.proofs.lemmas.List.{take-append-drop}
+use Rattle.tp_token.proofs.Lower.{enumerate_from, take-append-drop, full_share, not-OpDef-full_share, quarter, three_quarters, Gv, gnil, Coded, pcs, shares, ent, sep, ex, emp, guard, upd, via, guard_i, upd_i, upd_mono, ex_i, ex_e, id⊢, Share, Fml, ftrue, Keyless}
 use seplogic.Ra.Pcs.{OpDef, OpDef-comm}
 use seplogic.Ra.Ura.{Ura}
-use base.Fraction.{full_share}
-use base.FractionLaws.{not-OpDef-full_share}
-use base.Share.{quarter, three_quarters}
-use base.Stored.{Gv, gnil, Coded}
-use base.Algebras.{pcs, shares}
-use base.Logic.{ent, sep, ex, emp, guard, upd, via, guard_i, upd_i, upd_mono, ex_i, ex_e, id⊢}
-use base.Fml.{Share, Fml, ftrue}
-use base.Shift.{Keyless}
 use types.Logic.{Logic, sem}
 use types.Keyed.{entries_new, entries_take, entries_beside, entry_keyless, entries_keyless}
 use types.Owned.{basic}

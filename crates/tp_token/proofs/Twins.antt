@@ -1,8 +1,7 @@
 -- A seal and a key of one name show one value, and turn together. Assumes `Logic`.
 use Rattle.std.proofs.Common.{◌≡◌, ℕ, [], ◌∷◌, sym, subst}
+use Rattle.tp_token.proofs.Lower.{SProp, ent, sep, guard, Coded}
 use seplogic.Ra.Ura.{Ura}
-use base.Logic.{SProp, ent, sep, guard}
-use base.Stored.{Coded}
 use types.Logic.{Logic, sem}
 use types.Kit.{‵, ◌$◌, ◌∵◌, !, qed, move, check, updating, now, done}
 use types.Tokens.{name_agree, name_set}

@@ -1,2 +1,3 @@
+pub mod Lower
 pub mod Owned
 pub mod Sound

@@ -1,12 +1,6 @@
 -- What the tokens own.
 use Rattle.std.specs.Prelude.{ℕ, zero, suc, List, [], ◌∷◌}
-use base.Fraction.{full_share}
-use base.Share.{quarter, three_quarters}
-use base.Stored.{Gv, gnil, Coded}
-use base.Algebra.{Algebra}
-use base.SetCodes.{coded}
-use base.Algebras.{both, shares, agreed}
-use base.Fml.{Share, Fml, ftrue, fsep, fobs, fauth}
+use Rattle.tp_token.specs.Lower.{full_share, quarter, three_quarters, Gv, gnil, Coded, Algebra, coded, both, shares, agreed, Share, Fml, ftrue, fsep, fobs, fauth}
 use types.Keyed.{entry, entries_from}
 
 -- ---- twins: the two halves of a ghost name, which show one value and change only together

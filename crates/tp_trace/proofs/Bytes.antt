@@ -1,8 +1,6 @@
 -- Bytes of memory, read one behind the other.
 use Rattle.std.proofs.Common.{◌≡◌, ◌∙◌, ◌+◌, ◌≤◌, ◌++◌, ◌∷◌, ℕ, List, [], length, take, drop, Some, None, slice_get, sym, ap, arith, append-nil}
-use Rattle.std.proofs.Math.Seq.{take-add}
-use Rattle.std.proofs.lemmas.List.{drop-drop, take-append-drop, take_all}
-use Rattle.tp_cpu.proofs.Ahead.{bytes_from, no_bytes_from}
+use Rattle.tp_trace.proofs.Lower.{take-add, drop-drop, take-append-drop, take_all, bytes_from, no_bytes_from}
 
 -- a byte more
 pub one_more : (memory items : List ℕ) (first at byte : ℕ) → at ≡ first + length items → items ≡ take (length items) (drop first memory) → slice_get memory at ≡ Some byte

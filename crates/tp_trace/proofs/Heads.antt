@@ -1,9 +1,6 @@
 -- What the head and the first page of a node's image say.
 use Rattle.std.proofs.Common.{◌≡◌, ◌∙◌, ℕ, List, [], ◌∷◌, take, drop, ap, refl}
-use Rattle.std.proofs.BufReadLemmas.{drop-take_min}
-use Rattle.tp_law_machine.proofs.Images.{node_at-image}
-use Rattle.tp_model.specs.Image.{IsNode, cpu_at, image, image_head, node_at}
-use Rattle.tp_model.specs.NodeState.{NodeState}
+use Rattle.tp_trace.proofs.Lower.{drop-take_min, node_at-image, IsNode, cpu_at, image, image_head, node_at, NodeState}
 
 -- the processor is in the head alone
 head_alone : (n : NodeState) → cpu_at (image_head n) ≡ cpu_at (image n)

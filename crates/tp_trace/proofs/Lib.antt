@@ -1,3 +1,4 @@
+pub mod Lower
 pub mod Bytes
 pub mod Heads
 pub mod OneStep

@@ -1,14 +1,6 @@
 -- A run of one step at most.
 use Rattle.std.proofs.Common.{◌≡◌, ◌∙◌, ℕ, zero, suc, List, [], ◌++◌, Some, None, ap, append-nil, arith, nat_eq, sym, slice_get}
-use Rattle.std.specs.Option.{option_map}
-use Rattle.tp_law_machine.proofs.Partial.{bind_some}
-use Rattle.tp_model.specs.Network.{steps}
-use Rattle.tp_model.specs.Node.{node_step, t414}
-use Rattle.tp_model.specs.NodeState.{NodeState}
-use Rattle.tp_model.specs.declared.link.Token.{Token}
-use Rattle.tp_node.proofs.Answered.{why_fewer, why_most}
-use Rattle.tp_node.specs.RunEnd.{IsWhy}
-use Rattle.tp_node.specs.declared.run.Why.{Why}
+use Rattle.tp_trace.proofs.Lower.{option_map, bind_some, steps, node_step, t414, NodeState, Token, why_fewer, why_most, IsWhy, Why}
 use Rattle.tp_trace.specs.Steps.{Stepped, leaving, sent_by, stepped}
 
 -- two answers that are one have one node

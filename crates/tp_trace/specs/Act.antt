@@ -1,13 +1,6 @@
 -- What the next step of a node does, if it has one.
 use Rattle.std.specs.Prelude.{ℕ, ◌==◌, if◌then◌else◌, List, drop, Option, Some, None}
-use Rattle.tp_model.specs.Coding.{decoded}
-use Rattle.tp_model.specs.Memory.{offset, word_at}
-use Rattle.tp_model.specs.NodeState.{NodeState}
-use Rattle.tp_model.specs.Processor.{kept_at}
-use Rattle.tp_model.specs.Word.{not_process}
-use Rattle.tp_model.specs.declared.processor.Cpu.{Cpu}
-use Rattle.tp_model.specs.declared.processor.State.{State}
-use Rattle.tp_model.specs.declared.processor.State.TheVariants.{Idle, High, Low}
+use Rattle.tp_trace.specs.Lower.{decoded, offset, word_at, NodeState, kept_at, not_process, Cpu, State, Idle, High, Low}
 use Rattle.tp_trace.specs.declared.act.Act.{Act}
 use Rattle.tp_trace.specs.declared.act.Act.TheVariants.{Instruction, Interrupt, DispatchHigh, Restore, DispatchLow}
 

@@ -1,3 +1,4 @@
+pub mod Lower
 pub mod Act
 pub mod Hex
 pub mod Lines

@@ -1,16 +1,6 @@
 -- The lines in which steps are printed.
 use Rattle.std.specs.Prelude.{ℕ, Bool, true, false, List, [], ◌∷◌, ◌++◌, Option, Some, None, Ok, Err, codes}
-use Rattle.std.specs.Fmt.{decimal, signed_decimal}
-use Rattle.tp_model.specs.Coding.{op_of, operand_of}
-use Rattle.tp_model.specs.declared.instruction.Fun.{Fun}
-use Rattle.tp_model.specs.declared.instruction.Fun.TheVariants.{Opr}
-use Rattle.tp_model.specs.declared.instruction.Instr.{Instr}
-use Rattle.tp_model.specs.declared.instruction.Op.{Op}
-use Rattle.tp_model.specs.declared.link.Token.{Token}
-use Rattle.tp_model.specs.declared.link.Token.TheVariants.{Data, Ack, Marker}
-use Rattle.tp_model.specs.declared.processor.Cpu.{Cpu}
-use Rattle.tp_node.specs.declared.standing.Standing.{Standing}
-use Rattle.tp_node.specs.declared.standing.Standing.TheVariants.{Halted, Waits, Free}
+use Rattle.tp_trace.specs.Lower.{decimal, signed_decimal, op_of, operand_of, Fun, Opr, Instr, Op, Token, Data, Ack, Marker, Cpu, Standing, Halted, Waits, Free}
 use Rattle.tp_trace.specs.Hex.{hex_byte, hex_word}
 use Rattle.tp_trace.specs.Names.{fault_name, fun_name, op_name, state_name}
 use Rattle.tp_trace.specs.declared.act.Act.{Act}

@@ -1,13 +1,6 @@
 -- The names of instructions, as docs/MACHINE.md has them, of faults and of what runs.
 use Rattle.std.specs.Prelude.{ℕ, List, codes}
-use Rattle.tp_model.specs.declared.instruction.Fun.{Fun}
-use Rattle.tp_model.specs.declared.instruction.Fun.TheVariants.{J, Ldlp, Ldnl, Ldc, Ldnlp, Ldl, Adc, Call, Cj, Ajw, Eqc, Stl, Stnl, Opr}
-use Rattle.tp_model.specs.declared.instruction.Op.{Op}
-use Rattle.tp_model.specs.declared.instruction.Op.TheVariants.{Rev, Lb, Bsub, Endp, Diff, Add, Gcall, In, Prod, Gt, Wsub, Out, Sub, Startp, Outbyte, Outword, Seterr, Csub0, Stopp, Ladd, Ldiv, Ldpi, Ldpri, Rem, Ret, Lend, Testerr, Div, Disc, Diss, Lmul, Not, Xor, Bcnt, Lsum, Lsub, Runp, Sb, Gajw, Wcnt, Shr, Shl, Mint, Alt, Altwt, Altend, And, Enbc, Enbs, Move, Or, Ccnt1, Ldiff, Sum, Mul, Stoperr}
-use Rattle.tp_model.specs.declared.processor.Fault.{Fault}
-use Rattle.tp_model.specs.declared.processor.Fault.TheVariants.{BadAddress, UnknownOp, LongPrefix, LinkBusy}
-use Rattle.tp_model.specs.declared.processor.State.{State}
-use Rattle.tp_model.specs.declared.processor.State.TheVariants.{Idle, High, Low}
+use Rattle.tp_trace.specs.Lower.{Fun, J, Ldlp, Ldnl, Ldc, Ldnlp, Ldl, Adc, Call, Cj, Ajw, Eqc, Stl, Stnl, Opr, Op, Rev, Lb, Bsub, Endp, Diff, Add, Gcall, In, Prod, Gt, Wsub, Out, Sub, Startp, Outbyte, Outword, Seterr, Csub0, Stopp, Ladd, Ldiv, Ldpi, Ldpri, Rem, Ret, Lend, Testerr, Div, Disc, Diss, Lmul, Not, Xor, Bcnt, Lsum, Lsub, Runp, Sb, Gajw, Wcnt, Shr, Shl, Mint, Alt, Altwt, Altend, And, Enbc, Enbs, Move, Or, Ccnt1, Ldiff, Sum, Mul, Stoperr, Fault, BadAddress, UnknownOp, LongPrefix, LinkBusy, State, Idle, High, Low}
 
 -- a function
 abbrev pub fun_name : Fun → List ℕ

@@ -2,10 +2,7 @@
 -- Who is there acknowledges each byte that comes from the node, and has bytes to send: the first comes in at once, and each further one once the
 -- one before it was acknowledged. A node acknowledges a byte when it lets it go, so a byte comes in as soon as its link holds none.
 use Rattle.std.specs.Prelude.{◌≡◌, ℕ, List, [], ◌∷◌, get_or, map, option_copied, set, Option, Some, None}
-use Rattle.std.specs.Option.{option_map, option_or}
-use Rattle.tp_law_machine.specs.NodeOfBytes.{IsNodeOfBytes}
-use Rattle.tp_model.specs.NodeState.{NodeState}
-use Rattle.tp_model.specs.declared.link.Token.TheVariants.{Data, Ack}
+use Rattle.tp_trace.specs.Lower.{option_map, option_or, IsNodeOfBytes, NodeState, Data, Ack}
 use Rattle.tp_trace.specs.Steps.{heard, took_one}
 use Rattle.tp_trace.specs.declared.hearing.Heard.{Heard}
 use Rattle.tp_trace.specs.declared.others.Linked.{Linked}

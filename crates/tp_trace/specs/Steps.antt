@@ -1,9 +1,6 @@
 -- A step of a lone node, or a token that it takes, and what is seen of that. What it sends is seen, then dropped.
 use Rattle.std.specs.Prelude.{◌≡◌, ℕ, Bool, true, false, List, Option, Some, None, slice_get}
-use Rattle.std.specs.Option.{option_map, option_and_then}
-use Rattle.tp_model.specs.Node.{node_step, took}
-use Rattle.tp_model.specs.NodeState.{NodeState}
-use Rattle.tp_model.specs.declared.link.Token.{Token}
+use Rattle.tp_trace.specs.Lower.{option_map, option_and_then, node_step, took, NodeState, Token}
 use Rattle.tp_trace.specs.Act.{act_of}
 use Rattle.tp_trace.specs.declared.hearing.Heard.{Heard}
 use Rattle.tp_trace.specs.declared.stepping.Seen.{Seen}

@@ -1,9 +1,6 @@
 -- What a stop goes by: the instruction that comes next, and bytes of memory.
 use Rattle.std.specs.Prelude.{ℕ, List, take, drop, Option, Some, None}
-use Rattle.tp_model.specs.Memory.{offset}
-use Rattle.tp_model.specs.NodeState.{NodeState}
-use Rattle.tp_model.specs.declared.processor.Cpu.{Cpu}
-use Rattle.tp_model.specs.declared.processor.Fault.{Fault}
+use Rattle.tp_trace.specs.Lower.{offset, NodeState, Cpu, Fault}
 use Rattle.tp_trace.specs.Act.{act_of}
 use Rattle.tp_trace.specs.declared.act.Act.{Act}
 use Rattle.tp_trace.specs.declared.act.Act.TheVariants.{Instruction, Interrupt, DispatchHigh, Restore, DispatchLow}

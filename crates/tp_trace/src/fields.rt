@@ -1,8 +1,7 @@
 //! The fields of a node's image that hold its processor.
 
 ghost use Rattle.std.specs.Prelude.{◌≡◌, ◌+◌, ◌<◌, ◌^◌};
-ghost use Rattle.tp_model.specs.Bytes.{u16_at, u32_at, u8_at};
-ghost use Rattle.tp_model.specs.Image.{cpu_at, halt_of, state_of};
+ghost use Rattle.tp_trace.specs.Lower.{u16_at, u32_at, u8_at, cpu_at, halt_of, state_of};
 
 use tp_model::{Cpu, Fault, Queue, Regs, State};
 use tp_node::image_places::{

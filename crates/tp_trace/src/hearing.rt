@@ -1,8 +1,7 @@
 //! Tokens that a node takes, one at a time.
 
 ghost use Rattle.std.specs.Prelude.{◌≡◌, None};
-ghost use Rattle.std.specs.Option.{option_map};
-ghost use Rattle.tp_law_machine.specs.NodeOfBytes.{IsNodeOfBytes};
+ghost use Rattle.tp_trace.specs.Lower.{option_map, IsNodeOfBytes};
 ghost use Rattle.tp_trace.specs.Steps.{Hears};
 
 use tp_law_machine::carries_byte;

@@ -1,11 +1,7 @@
 //! Looking at a node: its processor, and what its next step does.
 
-ghost use Rattle.std.specs.Int.{from_le_bytes, w32};
 ghost use Rattle.std.specs.Prelude.{◌≡◌, Some, None, [], IfOk, OnOk, drop, slice_range};
-ghost use Rattle.tp_law_machine.specs.NodeOfBytes.{IsNodeOfBytes};
-ghost use Rattle.tp_model.specs.Coding.{decoded};
-ghost use Rattle.tp_model.specs.Memory.{byte_at, offset, word_at};
-ghost use Rattle.tp_model.specs.Processor.{kept_at};
+ghost use Rattle.tp_trace.specs.Lower.{from_le_bytes, w32, IsNodeOfBytes, decoded, byte_at, offset, word_at, kept_at};
 ghost use Rattle.tp_trace.specs.Act.{act_in, act_of, idle_act, instruction_act, low_act};
 ghost use Rattle.tp_trace.specs.Stops.{instruction_at, instruction_in, memory_of};
 

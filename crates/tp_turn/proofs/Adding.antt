@@ -1,18 +1,6 @@
 -- Acts of a node one after another.
 use Rattle.std.proofs.Common.{◌≡◌, ◌≢◌, ℕ, ◌+◌, List, [], ◌∷◌, ◌++◌, set, refl, sym, ap, subst, ◌∙◌, add-one, Some, slice_get, length}
-use Rattle.std.specs.List.{AllByRecursion}
-use Rattle.std.proofs.lemmas.List.{set-set}
-use Rattle.tp_model.specs.NodeState.{NodeState}
-use Rattle.tp_model.specs.Network.{◌>>=◌}
-use Rattle.tp_model.specs.Node.{t414}
-use Rattle.tp_model.specs.Entries.{process}
-use Rattle.tp_model.specs.Snapshot.{MarkedNetwork}
-use Rattle.tp_model.specs.Acts.{Act, Begin, Record, Journal, Close, Trim, happens, acted}
-use Rattle.tp_law_machine.proofs.Partial.{bind_some, all_append, slice_get-set_other}
-use Rattle.tp_node.specs.NodeContents.{NodeContents}
-use Rattle.tp_book.proofs.Lists.{set_back}
-use Rattle.tp_book.specs.Book.{BookValue, agreed, world_of}
-use Rattle.tp_book.proofs.Stood.{no_act}
+use Rattle.tp_turn.proofs.Lower.{AllByRecursion, set-set, NodeState, ◌>>=◌, t414, process, MarkedNetwork, Act, Begin, Record, Journal, Close, Trim, happens, acted, bind_some, all_append, slice_get-set_other, NodeContents, set_back, BookValue, agreed, world_of, no_act}
 use Rattle.tp_turn.specs.Books.{Grew}
 use Rattle.tp_turn.specs.Turns.{Then, InOrder}
 use Rattle.tp_turn.specs.Moments.{TurnMoment, IsNodeOf, entries_among, Added, Done}

@@ -1,30 +1,7 @@
 -- A node that received is ahead of its book, and stays so whatever others do.
-use Rattle.std.proofs.Common.{◌≡◌, ◌≢◌, ℕ, zero, suc, ◌+◌, ◌*◌, ◌<◌, ◌≤◌, ◌⊎◌, inl, inr, Bool, true, false, cond, List, [], ◌∷◌, ◌++◌, length, map, get_or, refl, sym, ap, subst, ◌∙◌, arith, append_assoc, append-nil, Option, Some, None}
+use Rattle.std.proofs.Common.{◌≡◌, ◌≢◌, ℕ, zero, suc, ◌+◌, ◌*◌, ◌<◌, ◌≤◌, ◌⊎◌, inl, inr, Bool, true, false, cond, List, [], ◌∷◌, ◌++◌, length, map, get_or, refl, sym, ap, subst, ◌∙◌, arith, append_assoc, Option, Some, None}
 use Rattle.std.specs.Prelude.{◌||◌}
-use Rattle.std.proofs.lemmas.Bool.{cases_eq}
-use Rattle.std.specs.List.{AllByRecursion}
-use Rattle.std.specs.Option.{option_map}
-use Rattle.tp_model.specs.declared.limits.TheConstants.{MAX_STEPS}
-use Rattle.tp_model.specs.declared.link.Token.{Token}
-use Rattle.tp_model.specs.declared.link.Token.TheVariants.{Data, Ack, Marker}
-use Rattle.tp_model.specs.declared.link.Received.{Received}
-use Rattle.tp_model.specs.declared.link.Received.TheVariants.{Nothing}
-use Rattle.tp_model.specs.Node.{t414}
-use Rattle.tp_model.specs.Network.{◌>>=◌, back, line_of, on_line, receiver, steps}
-use Rattle.tp_model.specs.Markers.{before}
-use Rattle.tp_model.specs.Turn.{by_link, received, took_all, turned}
-use Rattle.tp_model.specs.Acts.{Act, Begin, Record, Journal, Close, Trim, acted}
-use Rattle.tp_model.specs.Entries.{process}
-use Rattle.tp_law_network.specs.Reserved.{IsNotOf, IsReceived}
-use Rattle.tp_law_network.proofs.CutsFronts.{received_after}
-use Rattle.tp_law_machine.specs.NodeOfBytes.{IsNodeOfBytes}
-use Rattle.tp_law_machine.proofs.LinkLaws.{has_four_links}
-use Rattle.tp_law_machine.proofs.Nodes.{node_steps}
-use Rattle.tp_node.specs.NodeContents.{NodeContents}
-use Rattle.tp_book.specs.Book.{BookValue, agreed, world_of}
-use Rattle.tp_book.specs.Kept.{BookKeeps}
-use Rattle.tp_book.specs.Refusals.{needs_take}
-use Rattle.tp_book.proofs.Commit.{length-agreed}
+use Rattle.tp_turn.proofs.Lower.{append-nil, cases_eq, AllByRecursion, option_map, MAX_STEPS, Token, Data, Ack, Marker, Received, Nothing, t414, ◌>>=◌, back, line_of, on_line, receiver, steps, before, by_link, received, took_all, turned, Act, Begin, Record, Journal, Close, Trim, acted, process, IsNotOf, IsReceived, received_after, IsNodeOfBytes, has_four_links, node_steps, NodeContents, BookValue, agreed, world_of, BookKeeps, needs_take, length-agreed}
 use Rattle.tp_turn.specs.Turns.{InOrder}
 use Rattle.tp_turn.specs.Moments.{IsNodeOf, entries_among}
 use Rattle.tp_turn.specs.Receiving.{Answered, IsAhead, Receives, ReceivesOf, offered, offered_on}

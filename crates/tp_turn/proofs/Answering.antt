@@ -1,15 +1,6 @@
 -- What a node receives on a link, by what it took.
-use Rattle.std.proofs.Common.{◌≡◌, ℕ, List, [], ◌∷◌, ◌++◌, map, refl, sym, ap, subst, ◌∙◌, append_assoc, append-nil, Some}
-use Rattle.tp_model.specs.declared.link.Token.{Token}
-use Rattle.tp_model.specs.declared.link.Received.{Received}
-use Rattle.tp_model.specs.NodeState.{NodeState}
-use Rattle.tp_model.specs.Node.{t414, took}
-use Rattle.tp_model.specs.Network.{◌>>=◌}
-use Rattle.tp_model.specs.NodeWrites.{took_ranges}
-use Rattle.tp_model.specs.SharedPages.{LacksFrames}
-use Rattle.tp_model.specs.Turn.{received, took_all}
-use Rattle.tp_law_network.proofs.Partial.{bind_some}
-use Rattle.tp_node.specs.NodeContents.{NodeContents, memory_kept}
+use Rattle.std.proofs.Common.{◌≡◌, ℕ, List, [], ◌∷◌, ◌++◌, map, refl, sym, ap, subst, ◌∙◌, append_assoc, Some}
+use Rattle.tp_turn.proofs.Lower.{append-nil, Token, Received, NodeState, t414, took, ◌>>=◌, took_ranges, LacksFrames, received, took_all, bind_some, NodeContents, memory_kept}
 use Rattle.tp_turn.specs.Receiving.{Answered, TakesOne, TakesEach, ReceivesOf}
 
 -- ## Several tokens

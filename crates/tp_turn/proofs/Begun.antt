@@ -1,29 +1,7 @@
 -- The network of one node and one port: it is sound before its first entry, and a book of it begins there.
 use Rattle.std.proofs.Common.{◌≡◌, ℕ, zero, suc, ◌%◌, ◌<◌, Bool, true, false, cond, List, [], ◌∷◌, length, refl, sym, ap, subst, ◌∙◌, arith, Option, Some, None, slice_get}
 use Rattle.std.specs.Prelude.{◌&&◌, is_some, IsSome, Err}
-use Rattle.std.specs.List.{list_all}
-use Rattle.std.proofs.lemmas.Bool.{and_parts}
-use Rattle.tp_model.specs.declared.wire.WireEnd.TheVariants.{Link}
-use Rattle.tp_model.specs.EndBytes.{is_idle_out, is_idle_in}
-use Rattle.tp_model.specs.Image.{is_node, node_at, node_of, has_idle_links}
-use Rattle.tp_model.specs.NodeState.{NodeState}
-use Rattle.tp_model.specs.Node.{t414_ends}
-use Rattle.tp_model.specs.Network.{Network, Own, OfNode, OfHost, own, receiver, has_wire, back, on_line}
-use Rattle.tp_model.specs.Order.{after}
-use Rattle.tp_model.specs.Sound.{owner, is_pending, waits_at, holds_at, end_waits, end_holds}
-use Rattle.tp_model.specs.Format.{fresh_port}
-use Rattle.tp_law_network.proofs.Local.{own_node, own_host}
-use Rattle.tp_book.specs.Book.{BookValue, agreed, next_in_book}
-use Rattle.tp_book.specs.Dropped.{network_now}
-use Rattle.tp_law_machine.specs.NodeOfBytes.{IsNodeOfBytes}
-use Rattle.tp_book.specs.Start.{IsFresh, IsNetwork, first_book}
-use Rattle.tp_model.specs.CutImage.{only_if}
-use Rattle.tp_law_machine.proofs.Idle.{none_waits, none_holds}
-use Rattle.tp_law_machine.proofs.Images.{node_of_bytes}
-use Rattle.tp_law_machine.proofs.Numbers.{AreBytes}
-use Rattle.tp_law_machine.proofs.Partial.{cond_some}
-use Rattle.tp_node.specs.FromImage.{ReadsImage}
-use Rattle.tp_node.specs.declared.fault.ImageFault.TheVariants.{Memory as NoMemory}
+use Rattle.tp_turn.proofs.Lower.{list_all, and_parts, Link, is_idle_out, is_idle_in, is_node, node_at, node_of, has_idle_links, NodeState, t414_ends, Network, Own, OfNode, OfHost, own, receiver, has_wire, back, on_line, after, owner, is_pending, waits_at, holds_at, end_waits, end_holds, fresh_port, own_node, own_host, BookValue, agreed, next_in_book, network_now, IsNodeOfBytes, IsFresh, IsNetwork, first_book, only_if, none_waits, none_holds, node_of_bytes, AreBytes, cond_some, ReadsImage, NoMemory}
 use Rattle.tp_turn.specs.Lone.{IsLoneBook, Begins}
 use Rattle.tp_turn.specs.Tried.{fresh_image, lone_network}
 use Rattle.tp_turn.specs.declared.lone.Lone.{Lone}

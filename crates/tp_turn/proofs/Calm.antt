@@ -1,34 +1,8 @@
 -- A book of one node and one port that has no device, and in which no snapshot runs: what acts journal in it. Its calls only fail if memory
 -- is out.
-use Rattle.std.proofs.Common.{◌≡◌, ℕ, ◌+◌, ◌<◌, Bool, true, false, inl, inr, List, [], ◌∷◌, length, refl, sym, ap, subst, ◌∙◌, arith, Option, Some, None, get_or}
-use Rattle.std.specs.Prelude.{◌⊎◌, ◌-◌, count_by, is_none, nat_lt, Err, length}
-use Rattle.std.specs.Option.{option_map}
-use Rattle.std.proofs.lemmas.Bool.{cases_Bool, le-ltb}
-use Rattle.tp_model.specs.declared.link.Token.{Token}
-use Rattle.tp_model.specs.declared.link.Token.TheVariants.{Data, Ack, Marker}
-use Rattle.tp_model.specs.declared.entry.Entry.{Entry}
-use Rattle.tp_model.specs.declared.entry.Entry.TheVariants.{Take}
-use Rattle.tp_model.specs.declared.limits.TheConstants.{NUMBER_LIMIT}
-use Rattle.tp_model.specs.declared.wire.WireEnd.{WireEnd}
-use Rattle.tp_model.specs.declared.wire.WireEnd.TheVariants.{Link, Port as AtPort}
-use Rattle.tp_model.specs.NodeState.{NodeState}
-use Rattle.tp_model.specs.Node.{t414}
-use Rattle.tp_model.specs.Network.{Network, back, line_of, on_line, is_first, receiver}
-use Rattle.tp_model.specs.Entries.{next, process, takes}
-use Rattle.tp_model.specs.Order.{after}
-use Rattle.tp_model.specs.Journal.{is_full}
-use Rattle.tp_model.specs.Snapshot.{MarkedNetwork, collected, journalled}
-use Rattle.tp_model.specs.Acts.{Act, Journal, Close, acted, close_line, happens}
-use Rattle.tp_law_machine.proofs.LinkLaws.{has_four_links}
-use Rattle.tp_law_machine.proofs.Partial.{bind_some}
-use Rattle.tp_law_network.proofs.Reorder.{after_one, after_shape}
-use Rattle.tp_book.specs.Book.{BookValue, agreed, next_in_book, reserved, world_of}
-use Rattle.tp_book.specs.Dropped.{network_now}
-use Rattle.tp_book.specs.Refusals.{else_if, entry_refusal, host_refusal, is_full_for, is_full_for_take, is_journal_full, needs_take, port_behind, reserve_refusal, takeable_of, IsAnswer}
-use Rattle.tp_book.specs.declared.refusal.Refusal.{Refusal}
-use Rattle.tp_book.specs.declared.refusal.Refusal.TheVariants.{JournalFull, Memory, NothingToTake, PortFull, StoreBroken}
-use Rattle.tp_book.proofs.Fresh.{none_reserved}
-use Rattle.tp_book.proofs.TakeRefused.{full_for_any}
+use Rattle.std.proofs.Common.{◌≡◌, ℕ, ◌+◌, ◌<◌, Bool, true, false, inl, inr, List, [], ◌∷◌, length, refl, sym, ap, subst, ◌∙◌, arith, Option, Some, None, get_or, ◌⊎◌}
+use Rattle.std.specs.Prelude.{◌-◌, count_by, is_none, nat_lt, Err}
+use Rattle.tp_turn.proofs.Lower.{option_map, cases_Bool, le-ltb, Token, Data, Ack, Marker, Entry, Take, NUMBER_LIMIT, WireEnd, Link, AtPort, NodeState, t414, Network, back, line_of, on_line, is_first, receiver, next, process, takes, after, is_full, MarkedNetwork, collected, journalled, Act, Journal, Close, acted, close_line, happens, has_four_links, bind_some, after_one, after_shape, BookValue, agreed, next_in_book, reserved, world_of, network_now, else_if, entry_refusal, host_refusal, is_full_for, is_full_for_take, is_journal_full, needs_take, port_behind, reserve_refusal, takeable_of, IsAnswer, Refusal, JournalFull, Memory, NothingToTake, PortFull, StoreBroken, none_reserved, full_for_any}
 use Rattle.tp_turn.specs.Books.{Grew}
 use Rattle.tp_turn.specs.Fronts.{front_act}
 use Rattle.tp_turn.specs.Moments.{entries_among}

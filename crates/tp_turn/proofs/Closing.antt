@@ -1,15 +1,6 @@
 -- Lines that are closed while other tokens come before their Markers.
 use Rattle.std.proofs.Common.{◌≡◌, ℕ, true, false, cond, List, [], ◌∷◌, refl, sym, ap, subst, ◌∙◌, Option, Some, None}
-use Rattle.std.specs.Option.{option_map}
-use Rattle.std.proofs.lemmas.List.{append-nil}
-use Rattle.tp_model.specs.declared.link.Token.{Token}
-use Rattle.tp_model.specs.Node.{t414}
-use Rattle.tp_model.specs.Snapshot.{Snapshot, closed_over}
-use Rattle.tp_model.specs.Acts.{Close, happens}
-use Rattle.tp_book.specs.Needs.{has_recorded_in}
-use Rattle.tp_book.specs.Book.{BookValue, agreed, world_of}
-use Rattle.tp_book.specs.Marked.{after_close_over, is_closable}
-use Rattle.tp_book.proofs.Stood.{one_act}
+use Rattle.tp_turn.proofs.Lower.{option_map, append-nil, Token, t414, Snapshot, closed_over, Close, happens, has_recorded_in, BookValue, agreed, world_of, after_close_over, is_closable, one_act}
 use Rattle.tp_turn.specs.Books.{Grew}
 use Rattle.tp_turn.specs.Hosted.{HostDone}
 use Rattle.tp_turn.specs.Over.{ClosesOver}

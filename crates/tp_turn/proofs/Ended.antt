@@ -1,10 +1,7 @@
 -- What a turn leaves once its entries are dropped, and what a trial answers after its turns.
 use Rattle.std.proofs.Common.{◌≡◌, ℕ, length, sym, ap, subst, ◌∙◌, arith, Option, Some, None, slice_get}
 use Rattle.std.specs.Prelude.{is_some, Ok}
-use Rattle.tp_model.specs.NodeState.{NodeState}
-use Rattle.tp_node.specs.NodeContents.{NodeContents}
-use Rattle.tp_book.specs.Book.{BookValue, agreed, next_in_book}
-use Rattle.tp_book.specs.Dropped.{after_drop, network_now}
+use Rattle.tp_turn.proofs.Lower.{NodeState, NodeContents, BookValue, agreed, next_in_book, after_drop, network_now}
 use Rattle.tp_turn.specs.Moments.{IsNodeOf}
 use Rattle.tp_turn.specs.Lone.{Begins, IsLoneBook, IsOutputOf, Made, StandsAs, WentByAct, lone_of, lone_value}
 use Rattle.tp_turn.specs.Output.{TrialAs}

@@ -1,24 +1,7 @@
 -- A turn is journalled as one entry.
 use Rattle.std.proofs.Common.{◌≡◌, ℕ, zero, suc, Bool, true, false, cond, List, [], ◌∷◌, set, get_or, refl, sym, ap, subst, ◌∙◌, Some, None, slice_get, length, map}
 use Rattle.std.specs.Prelude.{nat_lt}
-use Rattle.std.specs.List.{AllByRecursion}
-use Rattle.tp_model.specs.declared.link.Token.{Token}
-use Rattle.tp_model.specs.declared.link.Received.{Received}
-use Rattle.tp_model.specs.declared.entry.Entry.{Entry}
-use Rattle.tp_model.specs.declared.entry.Entry.TheVariants.{Run, Turn}
-use Rattle.tp_model.specs.Node.{t414}
-use Rattle.tp_model.specs.Turn.{by_link}
-use Rattle.tp_model.specs.Entries.{process}
-use Rattle.tp_model.specs.Acts.{Journal, acted}
-use Rattle.tp_law_network.specs.Reserved.{turn_acts, turn_entries}
-use Rattle.tp_law_machine.proofs.Partial.{slice_get-set_same}
-use Rattle.tp_law_network.specs.Turns.{run_of}
-use Rattle.tp_node.specs.NodeContents.{NodeContents}
-use Rattle.tp_book.specs.Sends.{on_lines}
-use Rattle.tp_book.specs.Needs.{has_recorded_in}
-use Rattle.tp_book.specs.Book.{BookValue, agreed, world_of}
-use Rattle.tp_book.specs.Calls.{without_run, with_journalled}
-use Rattle.tp_book.specs.Turning.{after_turn, with_entries, TurnIsAgreed}
+use Rattle.tp_turn.proofs.Lower.{AllByRecursion, Token, Received, Entry, Run, Turn, t414, by_link, process, Journal, acted, turn_acts, turn_entries, slice_get-set_same, run_of, NodeContents, on_lines, has_recorded_in, BookValue, agreed, world_of, without_run, with_journalled, after_turn, with_entries, TurnIsAgreed}
 use Rattle.tp_turn.specs.Books.{Grew}
 use Rattle.tp_turn.specs.Moments.{IsNodeOf, entries_among, Added}
 use Rattle.tp_turn.specs.Whole.{HasTurnedOn}

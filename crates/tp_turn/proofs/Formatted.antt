@@ -1,10 +1,7 @@
 -- The images that can be tried are those with which a device may be formatted.
 use Rattle.std.proofs.Common.{◌≡◌, ℕ, Bool, true, false, cond, List, refl, ap, ◌∙◌, Option, Some, None, eq-eqb}
 use Rattle.std.specs.Prelude.{◌==◌, ◌&&◌}
-use Rattle.tp_model.specs.NodeState.{NodeState}
-use Rattle.tp_model.specs.Image.{page_count, node_of, has_idle_links}
-use Rattle.tp_model.specs.CutImage.{only_if}
-use Rattle.tp_model.specs.Format.{fresh_node}
+use Rattle.tp_turn.proofs.Lower.{NodeState, page_count, node_of, has_idle_links, only_if, fresh_node}
 use Rattle.tp_turn.specs.Tried.{fresh_image}
 use Rattle.tp_turn.proofs.Begun.{fresh_is}
 

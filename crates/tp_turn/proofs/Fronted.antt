@@ -1,30 +1,7 @@
 -- What a node does at the front of a line.
-use Rattle.std.proofs.Common.{◌≡◌, ℕ, Bool, true, false, cond, List, [], ◌∷◌, set, get_or, refl, sym, ap, subst, ◌∙◌, Option, Some, None, slice_get}
-use Rattle.std.specs.Prelude.{◌+◌, not, IsSome, length}
-use Rattle.std.specs.Option.{option_map}
-use Rattle.std.proofs.lemmas.List.{append-nil}
-use Rattle.tp_model.specs.declared.link.Token.{Token}
-use Rattle.tp_model.specs.declared.link.Token.TheVariants.{Data, Ack, Marker}
-use Rattle.tp_model.specs.declared.wire.WireEnd.TheVariants.{Link}
-use Rattle.tp_model.specs.declared.entry.Entry.TheVariants.{Take}
-use Rattle.tp_model.specs.NodeState.{NodeState}
-use Rattle.tp_model.specs.Network.{Network, receiver, on_line, is_first, sent}
-use Rattle.tp_model.specs.Node.{t414, took, on_link}
-use Rattle.tp_model.specs.Entries.{process}
-use Rattle.tp_model.specs.Markers.{is_marker}
-use Rattle.tp_model.specs.Snapshot.{Snapshot, has_recorded, is_closed, with_closed, collected}
-use Rattle.tp_model.specs.Acts.{Journal, Close, happens}
-use Rattle.tp_law_machine.specs.NodeOfBytes.{IsNodeOfBytes}
-use Rattle.tp_model.specs.NodeWrites.{took_ranges}
-use Rattle.tp_model.specs.SharedPages.{kept_behind}
-use Rattle.tp_node.specs.NodeContents.{NodeContents, memory_kept}
-use Rattle.tp_law_machine.proofs.Partial.{slice_get-set_same}
-use Rattle.tp_book.proofs.Lists.{set_back}
-use Rattle.tp_book.specs.Needs.{has_recorded_in}
-use Rattle.tp_book.specs.Book.{BookValue, agreed, world_of}
-use Rattle.tp_book.specs.Calls.{front_of, with_ready, after_take, TakeIsAgreed}
-use Rattle.tp_book.specs.Marked.{after_close}
-use Rattle.tp_book.proofs.Stood.{one_act}
+use Rattle.std.proofs.Common.{◌≡◌, ℕ, Bool, true, false, cond, List, [], ◌∷◌, set, get_or, refl, sym, ap, subst, ◌∙◌, Option, Some, None, slice_get, ◌+◌, length}
+use Rattle.std.specs.Prelude.{not, IsSome}
+use Rattle.tp_turn.proofs.Lower.{option_map, append-nil, Token, Data, Ack, Marker, Link, Take, NodeState, Network, receiver, on_line, is_first, sent, t414, took, on_link, process, is_marker, Snapshot, has_recorded, is_closed, with_closed, collected, Journal, Close, happens, IsNodeOfBytes, took_ranges, kept_behind, NodeContents, memory_kept, slice_get-set_same, set_back, has_recorded_in, BookValue, agreed, world_of, front_of, with_ready, after_take, TakeIsAgreed, after_close, one_act}
 use Rattle.tp_turn.specs.Books.{Grew}
 use Rattle.tp_turn.specs.Moments.{moment_of, IsNodeOf, Added, Done}
 use Rattle.tp_turn.specs.Fronts.{front_act, AtFront}

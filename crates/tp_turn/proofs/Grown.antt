@@ -1,9 +1,6 @@
 -- Books that grow by one act after another.
 use Rattle.std.proofs.Common.{◌≡◌, ℕ, ◌+◌, suc, List, [], ◌∷◌, ◌++◌, length, refl, sym, ap, ◌∙◌, arith, append_assoc, length-append}
-use Rattle.std.specs.List.{range_with_len}
-use Rattle.std.proofs.lemmas.List.{append-nil}
-use Rattle.tp_model.specs.declared.entry.Entry.{Entry}
-use Rattle.tp_book.specs.Book.{BookValue, next_in_book}
+use Rattle.tp_turn.proofs.Lower.{range_with_len, append-nil, Entry, BookValue, next_in_book}
 use Rattle.tp_turn.specs.Books.{Grew}
 
 pub grew_none : (b : BookValue) → Grew [] b b

@@ -1,27 +1,7 @@
 -- What the host does at the fronts of lines, one act after another.
 use Rattle.std.proofs.Common.{◌≡◌, ℕ, ◌+◌, ◌*◌, ◌<◌, Bool, true, false, List, [], ◌∷◌, ◌++◌, get_or, length, refl, sym, ap, subst, ◌∙◌, arith, add-one, Option, Some, None, slice_get}
-use Rattle.std.specs.Prelude.{◌-◌, ◌||◌, Result, Ok, Err, length}
-use Rattle.std.specs.List.{AllByRecursion}
-use Rattle.std.proofs.lemmas.List.{append-nil}
-use Rattle.tp_model.specs.declared.link.Token.{Token}
-use Rattle.tp_model.specs.declared.link.Token.TheVariants.{Data, Ack, Marker}
-use Rattle.tp_model.specs.declared.wire.WireEnd.TheVariants.{Port as AtPort}
-use Rattle.tp_model.specs.declared.entry.Entry.TheVariants.{Take}
-use Rattle.tp_model.specs.NodeState.{NodeState}
-use Rattle.tp_model.specs.Network.{Network, Port, receiver, back, on_line, is_first}
-use Rattle.tp_model.specs.Node.{t414}
-use Rattle.tp_model.specs.Entries.{process, port_took}
-use Rattle.tp_model.specs.Markers.{is_marker}
-use Rattle.tp_model.specs.Acts.{Act, Journal, Close, happens}
-use Rattle.tp_law_machine.proofs.Partial.{all_append}
-use Rattle.tp_node.specs.NodeContents.{NodeContents}
-use Rattle.tp_book.specs.Needs.{has_recorded_in}
-use Rattle.tp_book.specs.Book.{BookValue, agreed, world_of, next_in_book}
-use Rattle.tp_book.specs.Calls.{front_of, HostTook}
-use Rattle.tp_book.specs.Marked.{after_close}
-use Rattle.tp_book.specs.declared.refusal.Refusal.{Refusal}
-use Rattle.tp_book.specs.declared.refusal.Refusal.TheVariants.{JournalFull as Full, StoreBroken, Memory, NothingToTake, SnapshotRunning, PortFull as NoRoom}
-use Rattle.tp_book.proofs.Stood.{one_act, no_act}
+use Rattle.std.specs.Prelude.{◌-◌, ◌||◌, Result, Ok, Err}
+use Rattle.tp_turn.proofs.Lower.{AllByRecursion, append-nil, Token, Data, Ack, Marker, AtPort, Take, NodeState, Network, Port, receiver, back, on_line, is_first, t414, process, port_took, is_marker, Act, Journal, Close, happens, all_append, NodeContents, has_recorded_in, BookValue, agreed, world_of, next_in_book, front_of, HostTook, after_close, Refusal, Full, StoreBroken, Memory, NothingToTake, SnapshotRunning, NoRoom, one_act, no_act}
 use Rattle.tp_turn.specs.Books.{Grew}
 use Rattle.tp_turn.specs.Turns.{Then, InOrder}
 use Rattle.tp_turn.specs.Moments.{IsNodeOf, entries_among}

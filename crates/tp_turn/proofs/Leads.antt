@@ -1,17 +1,7 @@
 -- What was at the front of a line and was made ready is taken.
 use Rattle.std.proofs.Common.{◌≡◌, ℕ, Bool, true, false, List, [], ◌∷◌, get_or, refl, sym, subst, Option, Some, None, slice_get}
 use Rattle.std.specs.Prelude.{is_none, Ok}
-use Rattle.tp_model.specs.declared.link.Token.{Token}
-use Rattle.tp_model.specs.declared.link.Token.TheVariants.{Data, Ack, Marker}
-use Rattle.tp_model.specs.declared.wire.WireEnd.TheVariants.{Link}
-use Rattle.tp_model.specs.NodeState.{NodeState}
-use Rattle.tp_model.specs.Node.{took, on_link}
-use Rattle.tp_model.specs.Network.{receiver, on_line}
-use Rattle.tp_model.specs.Markers.{is_marker}
-use Rattle.tp_book.specs.Book.{BookValue, agreed}
-use Rattle.tp_book.specs.Calls.{front_of, with_ready, HasTaken}
-use Rattle.tp_book.specs.Refusals.{takeable_of, else_if, needs_take, take_refusal, ready_refusal, IsAnswer}
-use Rattle.tp_book.specs.declared.refusal.Refusal.TheVariants.{NothingToTake, StoreBroken}
+use Rattle.tp_turn.proofs.Lower.{Token, Data, Ack, Marker, Link, NodeState, took, on_link, receiver, on_line, is_marker, BookValue, agreed, front_of, with_ready, HasTaken, takeable_of, else_if, needs_take, take_refusal, ready_refusal, IsAnswer, NothingToTake, StoreBroken}
 
 -- what can be taken is at the front, and is no Marker
 pub takeable_front : (ts : List Token) → is_none (takeable_of ts) ≡ false → (rest : List Token) × (ts ≡ get_or ts 0 Marker ∷ rest) × (is_marker (get_or ts 0 Marker) ≡ false)

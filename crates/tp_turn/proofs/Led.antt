@@ -1,12 +1,7 @@
 -- All that turns do leads from one network to the other.
-use Rattle.std.proofs.Common.{◌≡◌, ℕ, zero, suc, ◌+◌, ◌*◌, Bool, true, false, List, length, sym, ap, ◌∙◌, Option, Some, None}
-use Rattle.std.specs.Prelude.{◌==◌, ◌%◌}
-use Rattle.tp_model.specs.declared.entry.Entry.{Entry}
-use Rattle.tp_model.specs.NodeState.{NodeState}
-use Rattle.tp_model.specs.Node.{t414}
-use Rattle.tp_model.specs.Network.{Network, back}
-use Rattle.tp_model.specs.Order.{after}
-use Rattle.tp_law_network.proofs.Reorder.{after_front}
+use Rattle.std.proofs.Common.{◌≡◌, ℕ, zero, suc, ◌+◌, ◌*◌, Bool, true, false, List, length, sym, ap, ◌∙◌, Option, Some, None, ◌%◌}
+use Rattle.std.specs.Prelude.{◌==◌}
+use Rattle.tp_turn.proofs.Lower.{Entry, NodeState, t414, Network, back, after, after_front}
 use Rattle.tp_turn.specs.Turns.{Then, InOrder}
 use Rattle.tp_turn.specs.TrialTurns.{TookBack, TookIn, IsTurnOf, AreTurns}
 

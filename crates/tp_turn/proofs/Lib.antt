@@ -1,3 +1,4 @@
+pub mod Lower
 pub mod Adding
 pub mod Ahead
 pub mod Answering

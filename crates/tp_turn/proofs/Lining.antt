@@ -1,9 +1,7 @@
 -- What is done at a line, at a link, and at links in order.
 use Rattle.std.proofs.Common.{◌≡◌, ℕ, ◌+◌, ◌*◌, ◌<◌, [], ◌++◌, refl, sym, ap, subst, ◌∙◌, arith, add-one, append_assoc, Option, Some, None, slice_get}
 use Rattle.std.specs.Prelude.{◌-◌, Result, Ok, Err}
-use Rattle.tp_model.specs.Network.{back}
-use Rattle.tp_book.specs.declared.refusal.Refusal.{Refusal}
-use Rattle.tp_book.specs.Book.{agreed, next_in_book}
+use Rattle.tp_turn.proofs.Lower.{back, Refusal, agreed, next_in_book}
 use Rattle.tp_turn.specs.declared.take.TheConstants.{TAKES}
 use Rattle.tp_turn.specs.declared.left.Left.{Left}
 use Rattle.tp_turn.specs.declared.left.Left.TheVariants.{NoWire, Enough, Empty, Marked, NoFrame, PortFull, JournalFull}

@@ -1,13 +1,6 @@
 -- Acts one after another.
 use Rattle.std.proofs.Common.{ℕ, suc, ◌+◌, ◌<◌, ◌≤◌, List, [], ◌++◌, map, refl, sym, ap, subst, ◌∙◌, arith, add-one, length-append}
-use Rattle.std.proofs.lemmas.List.{map-append}
-use Rattle.tp_model.specs.declared.entry.Entry.{Entry}
-use Rattle.tp_model.specs.declared.entry.Entry.TheVariants.{Take}
-use Rattle.tp_model.specs.NodeState.{NodeState}
-use Rattle.tp_model.specs.Node.{t414}
-use Rattle.tp_model.specs.Network.{Network}
-use Rattle.tp_model.specs.Order.{after}
-use Rattle.tp_law_network.proofs.Reorder.{after_front}
+use Rattle.tp_turn.proofs.Lower.{map-append, Entry, Take, NodeState, t414, Network, after, after_front}
 use Rattle.tp_turn.specs.Lone.{LoneValue, Made}
 use Rattle.tp_turn.specs.declared.take.TheConstants.{TAKES}
 use Rattle.tp_turn.specs.Turns.{Then, InOrder}

@@ -2,18 +2,7 @@
 -- none. None of them is a trim.
 use Rattle.std.proofs.Common.{◌≡◌, ℕ, ◌+◌, ◌*◌, zero, suc, Bool, true, false, cond, inl, inr, List, [], ◌∷◌, ◌++◌, map, refl, sym, ap, subst, ◌∙◌, Option, Some, None}
 use Rattle.std.specs.Prelude.{◌&&◌}
-use Rattle.std.specs.List.{AllByRecursion}
-use Rattle.tp_model.specs.declared.entry.Entry.{Entry}
-use Rattle.tp_model.specs.declared.link.Received.{Received}
-use Rattle.tp_model.specs.declared.link.Token.TheVariants.{Marker}
-use Rattle.tp_model.specs.Network.{back, is_first, on_line}
-use Rattle.tp_model.specs.Acts.{Act, Begin, Record, Journal, Close, Trim}
-use Rattle.tp_model.specs.Runs.{is_trim}
-use Rattle.tp_law_network.specs.Reserved.{turn_acts, turn_entries}
-use Rattle.tp_law_machine.proofs.Partial.{all_append}
-use Rattle.tp_book.specs.Needs.{has_recorded_in, is_asked}
-use Rattle.tp_book.specs.declared.refusal.Refusal.{Refusal}
-use Rattle.tp_book.specs.Book.{BookValue}
+use Rattle.tp_turn.proofs.Lower.{AllByRecursion, Entry, Received, Marker, back, is_first, on_line, Act, Begin, Record, Journal, Close, Trim, is_trim, turn_acts, turn_entries, all_append, has_recorded_in, is_asked, Refusal, BookValue}
 use Rattle.tp_turn.specs.declared.opened.Opened.{Opened}
 use Rattle.tp_turn.specs.Turns.{InOrder}
 use Rattle.tp_turn.specs.Moments.{TurnMoment, entries_among}

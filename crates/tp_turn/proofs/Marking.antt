@@ -1,15 +1,7 @@
 -- What a node does at Markers before it receives.
 use Rattle.std.proofs.Common.{◌≡◌, ℕ, zero, suc, ◌+◌, ◌*◌, Bool, true, false, cond, List, [], ◌∷◌, ◌++◌, refl, sym, ap, subst, ◌∙◌, add-one, append_assoc, Option, Some, None}
 use Rattle.std.specs.Prelude.{◌&&◌}
-use Rattle.std.proofs.lemmas.Bool.{and_from}
-use Rattle.tp_model.specs.declared.link.Token.TheVariants.{Marker}
-use Rattle.tp_model.specs.Network.{back, is_first, on_line}
-use Rattle.tp_model.specs.Node.{t414}
-use Rattle.tp_model.specs.Acts.{Act, Close, happens}
-use Rattle.tp_node.specs.NodeContents.{NodeContents}
-use Rattle.tp_book.specs.Needs.{has_recorded_in}
-use Rattle.tp_book.specs.Book.{BookValue, world_of}
-use Rattle.tp_book.specs.Marked.{after_close}
+use Rattle.tp_turn.proofs.Lower.{and_from, Marker, back, is_first, on_line, t414, Act, Close, happens, NodeContents, has_recorded_in, BookValue, world_of, after_close}
 use Rattle.tp_turn.specs.Turns.{Then, InOrder}
 use Rattle.tp_turn.specs.Moments.{TurnMoment, moment_of, IsNodeOf, Done}
 use Rattle.tp_turn.specs.Whole.{close_acts, ClosesFront}

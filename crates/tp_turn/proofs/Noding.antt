@@ -1,27 +1,7 @@
 -- A turn of the node, as workers make it, is one of a trial.
-use Rattle.std.proofs.Common.{◌≡◌, ℕ, zero, suc, ◌+◌, ◌*◌, ◌<◌, ◌≤◌, ◌⊎◌, inl, inr, Bool, true, false, cond, List, [], ◌∷◌, ◌++◌, length, map, get_or, refl, sym, ap, subst, ◌∙◌, arith, length-set, append-nil, Option, Some, None, slice_get}
+use Rattle.std.proofs.Common.{◌≡◌, ℕ, zero, suc, ◌+◌, ◌*◌, ◌<◌, ◌≤◌, ◌⊎◌, inl, inr, Bool, true, false, cond, List, [], ◌∷◌, ◌++◌, length, map, get_or, refl, sym, ap, subst, ◌∙◌, arith, length-set, Option, Some, None, slice_get}
 use Rattle.std.specs.Prelude.{◌&&◌, is_some, Ok, Err}
-use Rattle.std.proofs.lemmas.Bool.{true≢false}
-use Rattle.tp_model.specs.declared.link.Token.{Token}
-use Rattle.tp_model.specs.declared.link.Token.TheVariants.{Marker}
-use Rattle.tp_model.specs.declared.link.Received.TheVariants.{Nothing}
-use Rattle.tp_model.specs.declared.entry.Entry.{Entry}
-use Rattle.tp_model.specs.declared.limits.TheConstants.{NUMBER_LIMIT}
-use Rattle.tp_model.specs.Node.{node_step}
-use Rattle.tp_model.specs.NodeWrites.{node_ranges}
-use Rattle.tp_model.specs.Network.{back, is_first, on_line}
-use Rattle.tp_model.specs.SharedPages.{LacksFrames}
-use Rattle.tp_model.specs.Acts.{Act, Close, Journal, Record}
-use Rattle.tp_model.specs.Turn.{received}
-use Rattle.tp_law_network.specs.Reserved.{turn_entries}
-use Rattle.tp_node.specs.NodeContents.{NodeContents, memory_kept}
-use Rattle.tp_node.proofs.Answered.{why_most, why_fewer, lacking_frozen}
-use Rattle.tp_book.specs.Needs.{has_recorded_in, is_asked}
-use Rattle.tp_book.specs.Book.{BookValue, agreed, next_in_book}
-use Rattle.tp_book.specs.Dropped.{network_now}
-use Rattle.tp_book.specs.Refusals.{IsAnswer}
-use Rattle.tp_book.specs.declared.refusal.Refusal.{Refusal}
-use Rattle.tp_book.specs.declared.refusal.Refusal.TheVariants.{Memory}
+use Rattle.tp_turn.proofs.Lower.{append-nil, true≢false, Token, Marker, Nothing, Entry, NUMBER_LIMIT, node_step, node_ranges, back, is_first, on_line, LacksFrames, Act, Close, Journal, Record, received, turn_entries, NodeContents, memory_kept, why_most, why_fewer, lacking_frozen, has_recorded_in, is_asked, BookValue, agreed, next_in_book, network_now, IsAnswer, Refusal, Memory}
 use Rattle.tp_turn.specs.Moments.{TurnMoment}
 use Rattle.tp_turn.specs.Receiving.{IsAtEnd, ReceivesOf, offered, offered_on}
 use Rattle.tp_turn.specs.Settled.{Records, frozen_now}

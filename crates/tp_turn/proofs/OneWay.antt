@@ -1,38 +1,11 @@
 -- Turns have one outcome: from one network a number of turns makes one list of entries, and ends in one network.
 use Rattle.std.proofs.Common.{◌≡◌, ℕ, zero, suc, ◌+◌, ◌*◌, ◌%◌, ◌<◌, ◌≤◌, Bool, true, false, cond, inl, inr, List, [], ◌∷◌, ◌++◌, length, map, drop, get_or, refl, sym, ap, subst, ◌∙◌, arith, Option, Some, None, slice_get}
 use Rattle.std.specs.Prelude.{◌==◌, ◌&&◌, nat_lt, nat_le}
-use Rattle.std.specs.Option.{option_map}
-use Rattle.std.proofs.lemmas.Bool.{cases_lt, cases_eq, cases_Bool, leb-true, le-ltb, ltb-false}
-use Rattle.std.proofs.lemmas.List.{ext_get_or}
-use Rattle.tp_model.specs.declared.link.Token.{Token}
-use Rattle.tp_model.specs.declared.link.Token.TheVariants.{Data, Ack, Marker}
-use Rattle.tp_model.specs.declared.link.Received.{Received}
-use Rattle.tp_model.specs.declared.link.Received.TheVariants.{Nothing, JustData, JustAck, DataThenAck, AckThenData}
-use Rattle.tp_model.specs.declared.wire.WireEnd.{WireEnd}
-use Rattle.tp_model.specs.declared.wire.WireEnd.TheVariants.{Link, Port as AtPort}
-use Rattle.tp_model.specs.declared.entry.Entry.{Entry}
-use Rattle.tp_model.specs.declared.entry.Entry.TheVariants.{Run, Take, Turn}
-use Rattle.tp_model.specs.declared.limits.TheConstants.{MAX_STEPS, MAX_HELD}
-use Rattle.tp_model.specs.NodeState.{NodeState}
-use Rattle.tp_model.specs.Node.{t414}
-use Rattle.tp_model.specs.Network.{◌>>=◌, Network, Port, Own, OfNode, OfHost, own, steps, back, receiver, on_line, is_first}
-use Rattle.tp_model.specs.Entries.{process, of_node, does, next, port_took}
-use Rattle.tp_model.specs.Order.{after}
-use Rattle.tp_model.specs.Turn.{by_link, received, took_all}
-use Rattle.tp_law_network.specs.Reserved.{turn_entries}
-use Rattle.tp_law_machine.proofs.LinkLaws.{has_four_links}
-use Rattle.tp_law_network.specs.Turns.{run_of}
-use Rattle.tp_book.specs.FirstTwo.{by_two}
-use Rattle.tp_law_network.proofs.Lines.{first_is}
-use Rattle.tp_law_network.proofs.Local.{Step, step_of, own_node, step_own_same, turn_step}
-use Rattle.tp_law_network.proofs.Partial.{map_some, cond_some}
-use Rattle.tp_law_network.proofs.Reorder.{after_one, first_possible}
-use Rattle.tp_replay.proofs.Impossible.{take_behind, take_marker, port_takes_none, steps_fewer}
+use Rattle.tp_turn.proofs.Lower.{option_map, cases_lt, cases_eq, cases_Bool, leb-true, le-ltb, ltb-false, ext_get_or, Token, Data, Ack, Marker, Received, Nothing, JustData, JustAck, DataThenAck, AckThenData, WireEnd, Link, AtPort, Entry, Run, Take, Turn, MAX_STEPS, MAX_HELD, NodeState, t414, ◌>>=◌, Network, Port, Own, OfNode, OfHost, own, steps, back, receiver, on_line, is_first, process, of_node, does, next, port_took, after, by_link, received, took_all, turn_entries, has_four_links, run_of, by_two, first_is, Step, step_of, own_node, step_own_same, turn_step, map_some, cond_some, after_one, first_possible, take_behind, take_marker, port_takes_none, steps_fewer, takeable_of, is_full_for}
 use Rattle.tp_turn.specs.declared.take.TheConstants.{TAKES}
 use Rattle.tp_turn.specs.Tried.{lone_network}
 use Rattle.tp_turn.specs.Turns.{Then, InOrder}
 use Rattle.tp_turn.specs.TrialTurns.{StaysOnLine, port_there, TookAll, TookBack, TookIn, IsNodeTurn, IsTurnOf, AreTurns}
-use Rattle.tp_book.specs.Refusals.{takeable_of, is_full_for}
 use Rattle.tp_turn.specs.Output.{IsOutput}
 
 -- what isn't possible can't be

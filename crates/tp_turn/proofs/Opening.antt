@@ -1,25 +1,7 @@
 -- A turn that was opened in the form of its book.
 use Rattle.std.proofs.Common.{◌≡◌, ℕ, ◌≤◌, Bool, true, false, inl, inr, List, [], ◌++◌, refl, sym, ap, subst, ◌∙◌, Some, None}
 use Rattle.std.specs.Prelude.{Ok, Err}
-use Rattle.tp_model.specs.declared.form.Form.{Form}
-use Rattle.tp_model.specs.declared.form.Form.TheVariants.{Plain, Turns}
-use Rattle.tp_model.specs.declared.limits.TheConstants.{MAX_STEPS}
-use Rattle.tp_model.specs.declared.link.Received.{Received}
-use Rattle.tp_model.specs.declared.link.Token.{Token}
-use Rattle.tp_model.specs.NodeState.{NodeState}
-use Rattle.tp_model.specs.Network.{◌>>=◌, steps}
-use Rattle.tp_model.specs.Node.{t414}
-use Rattle.tp_model.specs.Turn.{by_link, took_all, turned}
-use Rattle.tp_model.specs.Acts.{Act}
-use Rattle.tp_law_network.specs.Reserved.{IsReceived}
-use Rattle.tp_law_machine.specs.NodeOfBytes.{IsNodeOfBytes}
-use Rattle.tp_law_machine.proofs.Nodes.{node_steps}
-use Rattle.tp_node.specs.NodeContents.{NodeContents}
-use Rattle.tp_book.specs.Needs.{has_recorded_in}
-use Rattle.tp_book.specs.declared.refusal.Refusal.{Refusal}
-use Rattle.tp_book.specs.declared.refusal.Refusal.TheVariants.{JournalFull, StoreBroken, Memory}
-use Rattle.tp_book.specs.Book.{BookValue, world_of}
-use Rattle.tp_book.specs.Refusals.{else_if, is_full_for_take, IsAnswer}
+use Rattle.tp_turn.proofs.Lower.{Form, Plain, Turns, MAX_STEPS, Received, Token, NodeState, ◌>>=◌, steps, t414, by_link, took_all, turned, Act, IsReceived, IsNodeOfBytes, node_steps, NodeContents, has_recorded_in, Refusal, JournalFull, StoreBroken, Memory, BookValue, world_of, else_if, is_full_for_take, IsAnswer}
 use Rattle.tp_turn.specs.declared.opened.Opened.{Opened}
 use Rattle.tp_turn.specs.declared.opened.Opened.TheVariants.{Apart, Whole}
 use Rattle.tp_turn.specs.Moments.{TurnMoment, IsNodeOf}

@@ -1,27 +1,7 @@
 -- There is place at a node's ends for what is at the front of its lines, as long as it takes tokens from the front.
 use Rattle.std.proofs.Common.{◌≡◌, ◌≢◌, ℕ, ◌+◌, ◌*◌, ◌<◌, ◌≤◌, Bool, true, false, cond, List, [], ◌∷◌, length, refl, sym, ap, subst, ◌∙◌, arith, Option, Some, None, slice_get}
 use Rattle.std.specs.Prelude.{◌||◌, IsSome}
-use Rattle.std.specs.Option.{option_map}
-use Rattle.tp_model.specs.declared.link.Token.{Token}
-use Rattle.tp_model.specs.declared.link.Token.TheVariants.{Data, Ack, Marker}
-use Rattle.tp_model.specs.declared.link.Received.{Received}
-use Rattle.tp_model.specs.Image.{IsNode}
-use Rattle.tp_model.specs.NodeState.{NodeState}
-use Rattle.tp_model.specs.Node.{took, waits, holds}
-use Rattle.tp_model.specs.Network.{back, for_line, line_of, on_line, receiver}
-use Rattle.tp_model.specs.Markers.{before, is_marker}
-use Rattle.tp_model.specs.Sound.{data_of, ack_of, datas, acks}
-use Rattle.tp_model.specs.Turn.{received}
-use Rattle.tp_model.specs.Word.{bit}
-use Rattle.tp_law_machine.proofs.Bits.{bit_small, bit_none, bit_some}
-use Rattle.tp_law_machine.proofs.LinkLaws.{took_keeps}
-use Rattle.tp_law_machine.proofs.Taking.{takes_data, takes_ack}
-use Rattle.tp_law_network.proofs.Lines.{for_line-here, for_line-other}
-use Rattle.tp_node.specs.NodeContents.{NodeContents}
-use Rattle.tp_book.specs.Book.{BookValue, agreed}
-use Rattle.tp_book.specs.Kept.{BookKeeps}
-use Rattle.tp_book.specs.Refusals.{needs_take}
-use Rattle.tp_book.proofs.Commit.{length-agreed}
+use Rattle.tp_turn.proofs.Lower.{option_map, Token, Data, Ack, Marker, Received, IsNode, NodeState, took, waits, holds, back, for_line, line_of, on_line, receiver, before, is_marker, data_of, ack_of, datas, acks, received, bit, bit_small, bit_none, bit_some, took_keeps, takes_data, takes_ack, for_line-here, for_line-other, NodeContents, BookValue, agreed, BookKeeps, needs_take, length-agreed}
 use Rattle.tp_turn.specs.Receiving.{Answered, HasPlace, ReceivesOf, TakesEach, offered, offered_on}
 use Rattle.tp_turn.proofs.Possible.{comes_in, datas_front, acks_front}
 

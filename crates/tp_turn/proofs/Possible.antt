@@ -1,29 +1,7 @@
 -- In a sound network a node can take the token at the front of a line that leads to it.
 use Rattle.std.proofs.Common.{◌≡◌, ℕ, ◌+◌, ◌*◌, ◌%◌, ◌<◌, ◌≤◌, false, List, [], ◌∷◌, length, map, refl, sym, ap, subst, ◌∙◌, arith, Some, slice_get}
 use Rattle.std.specs.Prelude.{IsSome}
-use Rattle.std.specs.Option.{option_map}
-use Rattle.std.proofs.lemmas.List.{length-map}
-use Rattle.tp_model.specs.Word.{bit}
-use Rattle.tp_model.specs.Image.{IsNode}
-use Rattle.tp_model.specs.NodeState.{NodeState}
-use Rattle.tp_model.specs.Node.{took, waits, holds, t414_ends}
-use Rattle.tp_model.specs.Network.{Network, OfNode, own, receiver, back, is_wired, line_of, on_line}
-use Rattle.tp_model.specs.Sound.{owner, datas, acks, end_waits, end_holds}
-use Rattle.tp_model.specs.Markers.{before, is_marker, plain, plain_network}
-use Rattle.tp_model.specs.Halves.{BookState, live}
-use Rattle.tp_model.specs.declared.link.Token.{Token}
-use Rattle.tp_model.specs.declared.link.Token.TheVariants.{Data, Ack, Marker}
-use Rattle.tp_model.specs.declared.wire.WireEnd.{WireEnd}
-use Rattle.tp_model.specs.declared.wire.WireEnd.TheVariants.{Link, Port as AtPort}
-use Rattle.tp_law_machine.proofs.Partial.{map_some}
-use Rattle.tp_law_machine.proofs.Bits.{bit_small, bit_none, bit_some}
-use Rattle.tp_law_machine.proofs.Taking.{takes_data, takes_ack}
-use Rattle.tp_law_network.proofs.Local.{own-node, owner_of_link}
-use Rattle.tp_law_network.proofs.Flight.{owner_node}
-use Rattle.tp_law_network.proofs.Room.{on_line-plain, datas-plain, acks-plain}
-use Rattle.tp_law_network.proofs.Sound.{end_waits_is, end_holds_is}
-use Rattle.tp_book.specs.Book.{agreed}
-use Rattle.tp_book.specs.Kept.{BookKeeps}
+use Rattle.tp_turn.proofs.Lower.{option_map, length-map, bit, IsNode, NodeState, took, waits, holds, t414_ends, Network, OfNode, own, receiver, back, is_wired, line_of, on_line, owner, datas, acks, end_waits, end_holds, before, is_marker, plain, plain_network, BookState, live, Token, Data, Ack, Marker, WireEnd, Link, AtPort, map_some, bit_small, bit_none, bit_some, takes_data, takes_ack, own-node, owner_of_link, owner_node, on_line-plain, datas-plain, acks-plain, end_waits_is, end_holds_is, agreed, BookKeeps}
 
 -- the tokens before the first Marker are part of it
 datas_before : (ts : List Token) → datas (before ts) ≤ datas ts

@@ -1,18 +1,7 @@
 -- A node records.
 use Rattle.std.proofs.Common.{◌≡◌, ◌≢◌, ℕ, zero, suc, Bool, true, false, cond, List, [], ◌∷◌, set, get_or, get_or-set_other, refl, sym, ap, subst, ◌∙◌, Option, Some, None, slice_get}
 use Rattle.std.specs.Prelude.{not, is_some, IsNone}
-use Rattle.std.specs.Option.{option_map}
-use Rattle.std.proofs.lemmas.List.{append-nil}
-use Rattle.tp_model.specs.NodeState.{NodeState}
-use Rattle.tp_model.specs.Node.{t414}
-use Rattle.tp_model.specs.Snapshot.{Snapshot, has_recorded, with_count}
-use Rattle.tp_model.specs.Acts.{Record, happens}
-use Rattle.tp_node.specs.NodeContents.{NodeContents}
-use Rattle.tp_book.proofs.Lists.{set_back}
-use Rattle.tp_book.specs.Needs.{has_recorded_in, is_asked}
-use Rattle.tp_book.specs.Book.{BookValue, agreed, world_of}
-use Rattle.tp_book.specs.Marked.{after_record}
-use Rattle.tp_book.proofs.Stood.{one_act}
+use Rattle.tp_turn.proofs.Lower.{option_map, append-nil, NodeState, t414, Snapshot, has_recorded, with_count, Record, happens, NodeContents, set_back, has_recorded_in, is_asked, BookValue, agreed, world_of, after_record, one_act}
 use Rattle.tp_turn.specs.Books.{Grew}
 use Rattle.tp_turn.specs.Moments.{moment_of, IsNodeOf, Added, Done}
 use Rattle.tp_turn.specs.Settled.{frozen_now, Records}

@@ -1,27 +1,7 @@
 -- A node's turn in its stages.
-use Rattle.std.proofs.Common.{◌≡◌, ℕ, zero, suc, true, false, cond, inl, inr, List, [], ◌∷◌, set, get_or, refl, sym, ap, subst, ◌∙◌, Some, None, slice_get, eq-eqb, ne_eqb}
-use Rattle.std.specs.Prelude.{Err, length, map}
-use Rattle.std.specs.List.{AllByRecursion}
-use Rattle.std.proofs.lemmas.Bool.{cases_eq}
-use Rattle.tp_model.specs.declared.link.Token.{Token}
-use Rattle.tp_model.specs.declared.entry.Entry.TheVariants.{Run}
-use Rattle.tp_model.specs.NodeState.{NodeState}
-use Rattle.tp_model.specs.Network.{Network}
-use Rattle.tp_model.specs.Node.{t414}
-use Rattle.tp_model.specs.Entries.{process}
-use Rattle.tp_model.specs.Acts.{Act, Journal, acted}
-use Rattle.tp_law_machine.proofs.Nodes.{node_steps}
-use Rattle.tp_law_machine.proofs.Partial.{slice_get-set_same}
-use Rattle.tp_model.specs.NodeWrites.{node_ranges, kept_behind_steps}
-use Rattle.tp_model.specs.SharedPages.{LacksFrames}
-use Rattle.tp_node.specs.NodeContents.{NodeContents, memory_kept}
-use Rattle.tp_node.specs.RunEnd.{RunEnd, IsWhy}
-use Rattle.tp_book.specs.Sends.{on_lines}
-use Rattle.tp_book.specs.Needs.{has_recorded_in}
-use Rattle.tp_book.specs.Acts.{run_acts}
-use Rattle.tp_book.specs.Book.{BookValue, agreed, world_of}
-use Rattle.tp_book.specs.Calls.{with_run, without_run, with_journalled, after_run, HasRun, RunIsAgreed}
-use Rattle.tp_book.specs.declared.refusal.Refusal.{Refusal}
+use Rattle.std.proofs.Common.{◌≡◌, ℕ, zero, suc, true, false, cond, inl, inr, List, [], ◌∷◌, set, get_or, refl, sym, ap, subst, ◌∙◌, Some, None, slice_get, eq-eqb, ne_eqb, length, map}
+use Rattle.std.specs.Prelude.{Err}
+use Rattle.tp_turn.proofs.Lower.{AllByRecursion, cases_eq, Token, Run, NodeState, Network, t414, process, Act, Journal, acted, node_steps, slice_get-set_same, node_ranges, kept_behind_steps, LacksFrames, NodeContents, memory_kept, RunEnd, IsWhy, on_lines, has_recorded_in, run_acts, BookValue, agreed, world_of, with_run, without_run, with_journalled, after_run, HasRun, RunIsAgreed, Refusal}
 use Rattle.tp_turn.specs.Books.{Grew}
 use Rattle.tp_turn.specs.Turns.{Then}
 use Rattle.tp_turn.specs.Moments.{TurnMoment, IsNodeOf, entries_among, Added, Done}

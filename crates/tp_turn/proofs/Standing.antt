@@ -1,18 +1,7 @@
 -- What a node received is at the front of its lines.
-use Rattle.std.proofs.Common.{◌≡◌, ◌≢◌, ℕ, ◌+◌, ◌*◌, ◌<◌, ◌⊎◌, inl, inr, true, List, [], ◌∷◌, ◌++◌, length, map, append-nil, refl, sym, ap, ◌∙◌, arith, Option, Some, None, eq-eqb}
+use Rattle.std.proofs.Common.{◌≡◌, ◌≢◌, ℕ, ◌+◌, ◌*◌, ◌<◌, ◌⊎◌, inl, inr, true, List, [], ◌∷◌, ◌++◌, length, map, refl, sym, ap, ◌∙◌, arith, Option, Some, None, eq-eqb}
 use Rattle.std.specs.Prelude.{◌==◌}
-use Rattle.std.specs.Option.{option_map}
-use Rattle.std.proofs.lemmas.Bool.{and_from, cases_eq}
-use Rattle.std.proofs.lemmas.List.{map-append}
-use Rattle.tp_model.specs.declared.link.Token.{Token}
-use Rattle.tp_model.specs.declared.link.Received.{Received}
-use Rattle.tp_model.specs.declared.wire.WireEnd.{WireEnd}
-use Rattle.tp_model.specs.declared.wire.WireEnd.TheVariants.{Link}
-use Rattle.tp_model.specs.NodeState.{NodeState}
-use Rattle.tp_model.specs.Network.{Network, back, for_line, line_of, on_line, receiver}
-use Rattle.tp_model.specs.Turn.{by_line, by_link, comes_in, incoming, is_link, line_from, received}
-use Rattle.tp_law_network.specs.Reserved.{IsReceived}
-use Rattle.tp_law_network.proofs.Lines.{for_line-append, for_line-here, for_line-other, taken_from}
+use Rattle.tp_turn.proofs.Lower.{append-nil, option_map, and_from, cases_eq, map-append, Token, Received, WireEnd, Link, NodeState, Network, back, for_line, line_of, on_line, receiver, by_line, by_link, comes_in, incoming, is_link, line_from, received, IsReceived, for_line-append, for_line-here, for_line-other, taken_from}
 
 -- These tokens are at the front of the line that comes in on a link.
 pub record StandsOn (s : Network NodeState) (i link : ℕ) (tokens : List Token) : Type 0 where

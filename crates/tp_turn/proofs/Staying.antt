@@ -1,13 +1,7 @@
 -- A node that has recorded stays frozen as it is through the opening of its turn, or not frozen.
-use Rattle.std.proofs.Common.{◌≡◌, ℕ, zero, suc, ◌+◌, ◌*◌, Bool, true, false, cond, not, inl, inr, List, ap, ◌∙◌, Option, Some, None}
-use Rattle.std.specs.Prelude.{Result, Ok, Err}
-use Rattle.tp_model.specs.declared.form.Form.{Form}
-use Rattle.tp_model.specs.declared.form.Form.TheVariants.{Plain, Turns}
-use Rattle.tp_model.specs.Network.{back}
-use Rattle.tp_model.specs.Acts.{Act}
-use Rattle.tp_model.specs.Snapshot.{Snapshot}
-use Rattle.tp_book.specs.Needs.{has_recorded_in, is_asked}
-use Rattle.tp_book.specs.declared.refusal.Refusal.{Refusal}
+use Rattle.std.proofs.Common.{◌≡◌, ℕ, zero, suc, ◌+◌, ◌*◌, Bool, true, false, cond, inl, inr, List, ap, ◌∙◌, Option, Some, None}
+use Rattle.std.specs.Prelude.{not, Result, Ok, Err}
+use Rattle.tp_turn.proofs.Lower.{Form, Plain, Turns, back, Act, Snapshot, has_recorded_in, is_asked, Refusal}
 use Rattle.tp_turn.specs.declared.left.Left.{Left}
 use Rattle.tp_turn.specs.declared.opened.Opened.{Opened}
 use Rattle.tp_turn.specs.declared.opened.Opened.TheVariants.{Apart, Whole}

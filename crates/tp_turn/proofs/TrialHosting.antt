@@ -1,16 +1,7 @@
 -- A turn of the host, as workers make it, is one of a trial.
 use Rattle.std.proofs.Common.{◌≡◌, ℕ, zero, suc, ◌+◌, ◌*◌, ◌<◌, ◌≤◌, Bool, true, false, inl, inr, List, [], length, refl, sym, ap, subst, ◌∙◌, arith, add-one, Option, Some, None, get_or}
 use Rattle.std.specs.Prelude.{◌||◌, Ok, Err}
-use Rattle.tp_model.specs.declared.link.Token.TheVariants.{Marker}
-use Rattle.tp_model.specs.declared.limits.TheConstants.{NUMBER_LIMIT}
-use Rattle.tp_model.specs.Network.{back, on_line, receiver}
-use Rattle.tp_model.specs.Acts.{Act}
-use Rattle.tp_book.specs.Book.{BookValue, agreed, next_in_book}
-use Rattle.tp_book.specs.Calls.{front_of}
-use Rattle.tp_book.specs.Dropped.{network_now}
-use Rattle.tp_book.specs.Refusals.{is_full_for, takeable_of}
-use Rattle.tp_book.specs.declared.refusal.Refusal.{Refusal}
-use Rattle.tp_book.specs.declared.refusal.Refusal.TheVariants.{JournalFull as Full, StoreBroken, Memory, NothingToTake, SnapshotRunning, PortFull as NoRoom}
+use Rattle.tp_turn.proofs.Lower.{Marker, NUMBER_LIMIT, back, on_line, receiver, Act, BookValue, agreed, next_in_book, front_of, network_now, is_full_for, takeable_of, Refusal, Full, StoreBroken, Memory, NothingToTake, SnapshotRunning, NoRoom}
 use Rattle.tp_turn.specs.Hosted.{PortAtFront, PortIsLeft, PortIsStop, PortLineEnds, OnPortLine, OnPortWire, OnPort, LeavesPorts, HostTurns, is_for_room}
 use Rattle.tp_turn.specs.Turns.{InOrder}
 use Rattle.tp_turn.specs.declared.left.Left.{Left}

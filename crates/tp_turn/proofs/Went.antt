@@ -1,11 +1,7 @@
 -- Turns of the node and of the host, with the book that they leave.
 use Rattle.std.proofs.Common.{◌≡◌, ◌+◌, ◌<◌, ℕ, ◌∙◌}
 use Rattle.std.specs.Prelude.{Ok, Err}
-use Rattle.tp_model.specs.declared.limits.TheConstants.{NUMBER_LIMIT}
-use Rattle.tp_node.specs.NodeContents.{NodeContents}
-use Rattle.tp_book.specs.Book.{BookValue, next_in_book}
-use Rattle.tp_book.specs.declared.refusal.Refusal.{Refusal}
-use Rattle.tp_book.specs.declared.refusal.Refusal.TheVariants.{Memory}
+use Rattle.tp_turn.proofs.Lower.{NUMBER_LIMIT, NodeContents, BookValue, next_in_book, Refusal, Memory}
 use Rattle.tp_turn.specs.Hosted.{HostDone, HostTurns}
 use Rattle.tp_turn.specs.Moments.{Done, IsNodeOf, moment_of}
 use Rattle.tp_turn.specs.Whole.{TurnsWhole}

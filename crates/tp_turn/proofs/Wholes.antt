@@ -1,22 +1,7 @@
 -- A whole turn in its stages.
 use Rattle.std.proofs.Common.{◌≡◌, ℕ, Bool, true, false, inl, inr, List, [], refl, sym, ap, subst, ◌∙◌, length, Option, Some, None, slice_get}
 use Rattle.std.specs.Prelude.{Ok, Err}
-use Rattle.tp_model.specs.declared.link.Token.{Token}
-use Rattle.tp_model.specs.declared.link.Received.{Received}
-use Rattle.tp_model.specs.NodeWrites.{node_ranges, kept_behind_steps}
-use Rattle.tp_model.specs.SharedPages.{LacksFrames}
-use Rattle.tp_model.specs.Turn.{by_link}
-use Rattle.tp_law_network.specs.Reserved.{turn_acts}
-use Rattle.tp_law_machine.proofs.Partial.{slice_get-set_same}
-use Rattle.tp_node.specs.NodeContents.{NodeContents, memory_kept}
-use Rattle.tp_node.specs.RunEnd.{IsWhy}
-use Rattle.tp_book.specs.Needs.{has_recorded_in}
-use Rattle.tp_book.specs.declared.refusal.Refusal.{Refusal}
-use Rattle.tp_book.specs.declared.refusal.Refusal.TheVariants.{JournalFull}
-use Rattle.tp_book.specs.Book.{BookValue, agreed}
-use Rattle.tp_book.specs.Calls.{with_run, without_run}
-use Rattle.tp_book.specs.Refusals.{reserve_refusal, IsAnswer}
-use Rattle.tp_book.specs.Turning.{takes_refusal}
+use Rattle.tp_turn.proofs.Lower.{Token, Received, node_ranges, kept_behind_steps, LacksFrames, by_link, turn_acts, slice_get-set_same, NodeContents, memory_kept, IsWhy, has_recorded_in, Refusal, JournalFull, BookValue, agreed, with_run, without_run, reserve_refusal, IsAnswer, takes_refusal}
 use Rattle.tp_turn.specs.declared.receiving.Taken.{Taken}
 use Rattle.tp_turn.specs.declared.stages.Turn.{Turn}
 use Rattle.tp_turn.specs.Moments.{TurnMoment, moment_of, Added, Done}

@@ -1,8 +1,6 @@
 -- What acts do to a book.
 use Rattle.std.specs.Prelude.{◌≡◌, List, ◌++◌, length}
-use Rattle.std.specs.List.{range_with_len}
-use Rattle.tp_model.specs.declared.entry.Entry.{Entry}
-use Rattle.tp_book.specs.Book.{BookValue, next_in_book}
+use Rattle.tp_turn.specs.Lower.{range_with_len, Entry, BookValue, next_in_book}
 
 -- The book has `entries` more, under the numbers that come next, and apart from these only lines, ports and nodes have changed.
 pub record Grew (entries : List Entry) (old new : BookValue) : Type 0 where

@@ -1,20 +1,6 @@
 -- What a node does at the front of a line, and why it leaves the line.
 use Rattle.std.specs.Prelude.{◌≡◌, ◌<◌, ℕ, ◌+◌, ◌*◌, true, false, List, [], ◌∷◌, Option, Some, None, Result, Ok, Err}
-use Rattle.tp_model.specs.declared.link.Token.{Token}
-use Rattle.tp_model.specs.declared.link.Token.TheVariants.{Data, Ack, Marker}
-use Rattle.tp_model.specs.declared.entry.Entry.TheVariants.{Take}
-use Rattle.tp_model.specs.declared.wire.WireEnd.TheVariants.{Link}
-use Rattle.tp_model.specs.Network.{back, on_line, is_first, receiver}
-use Rattle.tp_model.specs.NodeWrites.{took_ranges}
-use Rattle.tp_model.specs.SharedPages.{LacksFrames, kept_behind}
-use Rattle.tp_model.specs.Acts.{Act, Journal, Close}
-use Rattle.tp_node.specs.NodeContents.{memory_kept}
-use Rattle.tp_book.specs.Needs.{has_recorded_in}
-use Rattle.tp_book.specs.declared.refusal.Refusal.{Refusal}
-use Rattle.tp_book.specs.declared.refusal.Refusal.TheVariants.{JournalFull, StoreBroken, Memory, NothingToTake, SnapshotRunning, PortFull}
-use Rattle.tp_book.specs.Book.{BookValue}
-use Rattle.tp_book.specs.Calls.{front_of}
-use Rattle.tp_book.specs.Refusals.{ready_refusal}
+use Rattle.tp_turn.specs.Lower.{Token, Data, Ack, Marker, Take, Link, back, on_line, is_first, receiver, took_ranges, LacksFrames, kept_behind, Act, Journal, Close, memory_kept, has_recorded_in, Refusal, JournalFull, StoreBroken, Memory, NothingToTake, SnapshotRunning, PortFull, BookValue, front_of, ready_refusal}
 use Rattle.tp_turn.specs.declared.left.Left.{Left}
 use Rattle.tp_turn.specs.declared.left.Left.TheVariants as left
 use Rattle.tp_turn.specs.declared.take.TheConstants.{TAKES}

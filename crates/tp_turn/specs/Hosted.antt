@@ -1,17 +1,6 @@
 -- The host's turn: what it does at the fronts of the lines that come to its ports, and why it leaves them.
 use Rattle.std.specs.Prelude.{◌≡◌, ◌<◌, ℕ, zero, suc, ◌+◌, ◌*◌, Bool, true, false, ◌||◌, List, [], ◌∷◌, length, Option, Some, None, Result, Ok, Err}
-use Rattle.std.specs.List.{AllByRecursion}
-use Rattle.tp_model.specs.declared.link.Token.TheVariants.{Marker}
-use Rattle.tp_model.specs.Node.{t414}
-use Rattle.tp_model.specs.Network.{back, on_line, is_first}
-use Rattle.tp_model.specs.Entries.{process}
-use Rattle.tp_model.specs.Acts.{Act, acted}
-use Rattle.tp_book.specs.Needs.{has_recorded_in}
-use Rattle.tp_book.specs.declared.refusal.Refusal.{Refusal}
-use Rattle.tp_book.specs.declared.refusal.Refusal.TheVariants.{JournalFull, StoreBroken, Memory, NothingToTake, SnapshotRunning, PortFull}
-use Rattle.tp_book.specs.Book.{BookValue, agreed, world_of}
-use Rattle.tp_book.specs.Calls.{front_of}
-use Rattle.tp_book.specs.Refusals.{host_refusal}
+use Rattle.tp_turn.specs.Lower.{AllByRecursion, Marker, t414, back, on_line, is_first, process, Act, acted, has_recorded_in, Refusal, JournalFull, StoreBroken, Memory, NothingToTake, SnapshotRunning, PortFull, BookValue, agreed, world_of, front_of, host_refusal}
 use Rattle.tp_turn.specs.declared.left.Left.{Left}
 use Rattle.tp_turn.specs.declared.left.Left.TheVariants as left
 use Rattle.tp_turn.specs.declared.take.TheConstants.{TAKES}

@@ -1,3 +1,4 @@
+pub mod Lower
 pub mod Books
 pub mod Fronts
 pub mod Hosted

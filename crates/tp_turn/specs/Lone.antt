@@ -1,13 +1,6 @@
 -- A node with the book of its network, and what turns do to them.
 use Rattle.std.specs.Prelude.{◌≡◌, ◌≤◌, ℕ, ◌+◌, false, List, [], ◌∷◌, length, Some, None, slice_get}
-use Rattle.tp_model.specs.declared.entry.Entry.{Entry}
-use Rattle.tp_model.specs.declared.form.Form.TheVariants.{Turns}
-use Rattle.tp_model.specs.NodeState.{NodeState}
-use Rattle.tp_model.specs.Network.{Network, Port}
-use Rattle.tp_node.specs.Standing.{standing}
-use Rattle.tp_node.specs.declared.standing.Standing.{Standing}
-use Rattle.tp_book.specs.Book.{BookValue, agreed, next_in_book}
-use Rattle.tp_book.specs.Dropped.{network_now}
+use Rattle.tp_turn.specs.Lower.{Entry, Turns, NodeState, Network, Port, standing, Standing, BookValue, agreed, next_in_book, network_now}
 use Rattle.tp_turn.specs.Moments.{IsNodeOf}
 use Rattle.tp_turn.specs.Tried.{lone_network}
 use Rattle.tp_turn.specs.declared.lone.Lone.{Lone}

@@ -1,15 +1,6 @@
 -- A book with a node beside it, and what acts of the node change.
 use Rattle.std.specs.Prelude.{◌≡◌, ℕ, true, List, [], ◌∷◌, ◌≢◌, get_or, set, Some, None, IsSome, slice_get, length}
-use Rattle.std.specs.List.{AllByRecursion}
-use Rattle.tp_model.specs.declared.entry.Entry.{Entry}
-use Rattle.tp_model.specs.NodeState.{NodeState}
-use Rattle.tp_model.specs.Node.{t414}
-use Rattle.tp_model.specs.Entries.{process}
-use Rattle.tp_model.specs.Acts.{Act, Begin, Record, Journal, Close, Trim, acted}
-use Rattle.tp_law_machine.specs.NodeOfBytes.{IsNodeOfBytes}
-use Rattle.tp_node.specs.NodeContents.{NodeContents}
-use Rattle.tp_book.specs.Needs.{has_recorded_in}
-use Rattle.tp_book.specs.Book.{BookValue, agreed, world_of}
+use Rattle.tp_turn.specs.Lower.{AllByRecursion, Entry, NodeState, t414, process, Act, Begin, Record, Journal, Close, Trim, acted, IsNodeOfBytes, NodeContents, has_recorded_in, BookValue, agreed, world_of}
 use Rattle.tp_turn.specs.Books.{Grew}
 
 -- a book and a node, both as they are at a moment

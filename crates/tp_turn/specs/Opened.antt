@@ -1,17 +1,6 @@
 -- A node's turn in the form of its book: it is opened by the book's form, and committed by how it was opened.
 use Rattle.std.specs.Prelude.{◌≡◌, ℕ, List, [], ◌++◌, map, length, Option, Some, None, Result, Ok, Err}
-use Rattle.tp_model.specs.declared.entry.Entry.{Entry}
-use Rattle.tp_model.specs.declared.form.Form.{Form}
-use Rattle.tp_model.specs.declared.form.Form.TheVariants.{Plain, Turns}
-use Rattle.tp_model.specs.declared.link.Received.{Received}
-use Rattle.tp_model.specs.declared.link.Token.{Token}
-use Rattle.tp_model.specs.Acts.{Act, Journal}
-use Rattle.tp_model.specs.Turn.{by_link}
-use Rattle.tp_law_network.specs.Reserved.{turn_entries}
-use Rattle.tp_node.specs.NodeContents.{NodeContents}
-use Rattle.tp_book.specs.declared.refusal.Refusal.{Refusal}
-use Rattle.tp_book.specs.Acts.{run_entries}
-use Rattle.tp_book.specs.Book.{BookValue}
+use Rattle.tp_turn.specs.Lower.{Entry, Form, Plain, Turns, Received, Token, Act, Journal, by_link, turn_entries, NodeContents, Refusal, run_entries, BookValue}
 use Rattle.tp_turn.specs.declared.opened.Opened.{Opened}
 use Rattle.tp_turn.specs.declared.opened.Opened.TheVariants.{Apart, Whole}
 use Rattle.tp_turn.specs.Moments.{TurnMoment, IsNodeOf}

@@ -1,12 +1,6 @@
 -- What a trial answers.
 use Rattle.std.specs.Prelude.{◌≡◌, ℕ, List, Option, Some, None, Result, Ok, Err, Vec}
-use Rattle.std.specs.declared.alloc.Global.{Global}
-use Rattle.tp_model.specs.declared.entry.Entry.{Entry}
-use Rattle.tp_model.specs.NodeState.{NodeState}
-use Rattle.tp_model.specs.Node.{t414}
-use Rattle.tp_model.specs.Network.{Network}
-use Rattle.tp_model.specs.Order.{after}
-use Rattle.tp_node.specs.declared.standing.Standing.{Standing}
+use Rattle.tp_turn.specs.Lower.{Global, Entry, NodeState, t414, Network, after, Standing}
 use Rattle.tp_turn.specs.Lone.{IsOutputOf, StandsAs}
 use Rattle.tp_turn.specs.Tried.{lone_network}
 use Rattle.tp_turn.specs.TrialTurns.{AreTurns}

@@ -1,8 +1,6 @@
 -- Lines that are closed while tokens come before their Markers.
 use Rattle.std.specs.Prelude.{◌≡◌, ℕ, if◌then◌else◌, List, [], ◌∷◌, length}
-use Rattle.tp_model.specs.Acts.{Act, Close}
-use Rattle.tp_book.specs.Book.{BookValue}
-use Rattle.tp_book.specs.Marked.{after_close_over, is_closable}
+use Rattle.tp_turn.specs.Lower.{Act, Close, BookValue, after_close_over, is_closable}
 use Rattle.tp_turn.specs.Turns.{InOrder}
 
 -- A line is closed if a Marker is on it and its receiver has recorded.

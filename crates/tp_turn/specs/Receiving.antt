@@ -1,24 +1,7 @@
 -- What a node receives for a turn that is one entry: tokens that it takes while they stay at the front of their lines. A part of the
 -- receiving is seen as the node before it, what it answers in order, and the node after it.
 use Rattle.std.specs.Prelude.{◌≡◌, ◌≤◌, ℕ, ◌+◌, ◌*◌, Bool, true, false, ◌||◌, if◌then◌else◌, List, [], ◌∷◌, ◌++◌, get_or, length, Option, Some, None, Result, Ok, Err}
-use Rattle.tp_model.specs.declared.link.Token.{Token}
-use Rattle.tp_model.specs.declared.link.Received.{Received}
-use Rattle.tp_model.specs.declared.link.Received.TheVariants.{Nothing}
-use Rattle.tp_model.specs.NodeState.{NodeState}
-use Rattle.tp_model.specs.Node.{t414, took, waits, holds}
-use Rattle.tp_model.specs.Network.{back, on_line}
-use Rattle.tp_model.specs.NodeWrites.{took_ranges}
-use Rattle.tp_model.specs.SharedPages.{LacksFrames, kept_behind}
-use Rattle.tp_model.specs.Markers.{before}
-use Rattle.tp_model.specs.Sound.{datas, acks}
-use Rattle.tp_model.specs.Turn.{by_link, received, took_all}
-use Rattle.tp_model.specs.Word.{bit}
-use Rattle.tp_law_network.specs.Reserved.{IsReceived}
-use Rattle.tp_law_machine.specs.NodeOfBytes.{IsNodeOfBytes}
-use Rattle.tp_node.specs.NodeContents.{NodeContents, memory_kept}
-use Rattle.tp_book.specs.declared.refusal.Refusal.{Refusal}
-use Rattle.tp_book.specs.Book.{BookValue, world_of}
-use Rattle.tp_book.specs.Refusals.{needs_take}
+use Rattle.tp_turn.specs.Lower.{Token, Received, Nothing, NodeState, t414, took, waits, holds, back, on_line, took_ranges, LacksFrames, kept_behind, before, datas, acks, by_link, received, took_all, bit, IsReceived, IsNodeOfBytes, NodeContents, memory_kept, Refusal, BookValue, world_of, needs_take}
 use Rattle.tp_turn.specs.declared.receiving.Taken.{Taken}
 use Rattle.tp_turn.specs.Turns.{Then, InOrder}
 use Rattle.tp_turn.specs.Moments.{IsNodeOf}

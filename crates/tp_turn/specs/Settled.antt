@@ -1,10 +1,6 @@
 -- The open part of a node's turn.
 use Rattle.std.specs.Prelude.{◌≡◌, ◌<◌, ℕ, true, if◌then◌else◌, List, [], ◌∷◌, length, replicate, Some, Result, Ok, Err}
-use Rattle.tp_model.specs.Acts.{Act, Record}
-use Rattle.tp_node.specs.NodeContents.{NodeContents}
-use Rattle.tp_book.specs.Needs.{is_asked}
-use Rattle.tp_book.specs.declared.refusal.Refusal.{Refusal}
-use Rattle.tp_book.specs.Book.{BookValue}
+use Rattle.tp_turn.specs.Lower.{Act, Record, NodeContents, is_asked, Refusal, BookValue}
 use Rattle.tp_turn.specs.declared.left.Left.{Left}
 use Rattle.tp_turn.specs.Turns.{Then, InOrder}
 use Rattle.tp_turn.specs.Moments.{TurnMoment, Added, entries_among}

@@ -1,19 +1,6 @@
 -- A node's turn: its open part, then a run, whose entry the book gets once the node has run.
 use Rattle.std.specs.Prelude.{◌≡◌, ◌≤◌, ◌⊎◌, ℕ, List, Some, None, Result, Ok, Err}
-use Rattle.tp_model.specs.declared.limits.TheConstants.{MAX_STEPS}
-use Rattle.tp_model.specs.declared.link.Token.{Token}
-use Rattle.tp_model.specs.Node.{t414}
-use Rattle.tp_model.specs.Network.{steps}
-use Rattle.tp_model.specs.Acts.{Act}
-use Rattle.tp_model.specs.NodeWrites.{node_ranges, kept_behind_steps}
-use Rattle.tp_model.specs.SharedPages.{LacksFrames}
-use Rattle.tp_node.specs.NodeContents.{NodeContents, memory_kept}
-use Rattle.tp_node.specs.RunEnd.{RunEnd, IsWhy}
-use Rattle.tp_book.specs.declared.refusal.Refusal.{Refusal}
-use Rattle.tp_book.specs.Acts.{run_acts}
-use Rattle.tp_book.specs.Book.{BookValue}
-use Rattle.tp_book.specs.Calls.{with_run}
-use Rattle.tp_book.specs.Refusals.{reserve_refusal, IsAnswer}
+use Rattle.tp_turn.specs.Lower.{MAX_STEPS, Token, t414, steps, Act, node_ranges, kept_behind_steps, LacksFrames, NodeContents, memory_kept, RunEnd, IsWhy, Refusal, run_acts, BookValue, with_run, reserve_refusal, IsAnswer}
 use Rattle.tp_turn.specs.declared.stages.Turn.{Turn}
 use Rattle.tp_turn.specs.Turns.{Then}
 use Rattle.tp_turn.specs.Moments.{TurnMoment, moment_of, IsNodeOf, Added, Done}

@@ -1,22 +1,7 @@
 -- What turns of a trial do to its network. A part of a turn is seen as the network before it, its entries in order, and the network
 -- after it.
 use Rattle.std.specs.Prelude.{◌≡◌, ◌<◌, ◌≤◌, ◌⊎◌, ℕ, ◌+◌, ◌*◌, ◌%◌, ◌==◌, Bool, true, false, List, [], map, length, get_or, Option, Some, None, slice_get}
-use Rattle.tp_model.specs.declared.link.Token.{Token}
-use Rattle.tp_model.specs.declared.link.Token.TheVariants.{Marker}
-use Rattle.tp_model.specs.declared.link.Received.{Received}
-use Rattle.tp_model.specs.declared.link.Received.TheVariants.{Nothing}
-use Rattle.tp_model.specs.declared.wire.WireEnd.{WireEnd}
-use Rattle.tp_model.specs.declared.wire.WireEnd.TheVariants.{Link, Port as AtPort}
-use Rattle.tp_model.specs.declared.entry.Entry.{Entry}
-use Rattle.tp_model.specs.declared.entry.Entry.TheVariants.{Take}
-use Rattle.tp_model.specs.NodeState.{NodeState}
-use Rattle.tp_model.specs.Node.{node_step, t414}
-use Rattle.tp_model.specs.Network.{Network, Port, receiver, back, on_line}
-use Rattle.tp_model.specs.Markers.{before}
-use Rattle.tp_model.specs.Order.{after}
-use Rattle.tp_model.specs.Turn.{received}
-use Rattle.tp_law_network.specs.Reserved.{turn_entries}
-use Rattle.tp_book.specs.Refusals.{takeable_of, is_full_for}
+use Rattle.tp_turn.specs.Lower.{Token, Marker, Received, Nothing, WireEnd, Link, AtPort, Entry, Take, NodeState, node_step, t414, Network, Port, receiver, back, on_line, before, after, received, turn_entries, takeable_of, is_full_for}
 use Rattle.tp_turn.specs.Turns.{InOrder}
 use Rattle.tp_turn.specs.declared.take.TheConstants.{TAKES}
 

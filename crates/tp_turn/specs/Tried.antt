@@ -1,13 +1,6 @@
 -- What is tried without a device: one node, its link 0 wired to port 0.
 use Rattle.std.specs.Prelude.{◌≡◌, ℕ, List, [], ◌∷◌, replicate, Option, Some, None, IsSome, Result, Ok, Err}
-use Rattle.tp_model.specs.declared.wire.WireEnd.{WireEnd}
-use Rattle.tp_model.specs.declared.wire.WireEnd.TheVariants.{Link, Port as AtPort}
-use Rattle.tp_model.specs.NodeState.{NodeState}
-use Rattle.tp_model.specs.Image.{node_of, has_idle_links}
-use Rattle.tp_model.specs.CutImage.{only_if}
-use Rattle.tp_model.specs.Network.{Network}
-use Rattle.tp_model.specs.Format.{fresh_port}
-use Rattle.tp_node.specs.NodeContents.{NodeContents}
+use Rattle.tp_turn.specs.Lower.{WireEnd, Link, AtPort, NodeState, node_of, has_idle_links, only_if, Network, fresh_port, NodeContents}
 use Rattle.tp_turn.specs.declared.image.TryFault.{TryFault}
 use Rattle.tp_turn.specs.declared.image.TryFault.TheVariants.{BadImage, Memory}
 

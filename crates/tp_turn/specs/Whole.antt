@@ -1,27 +1,7 @@
 -- A node's turn that is one entry. The node records and closes at Markers, receives, and runs. The book gets the entry once the node has
 -- run.
 use Rattle.std.specs.Prelude.{◌≡◌, ◌≤◌, ◌⊎◌, ℕ, ◌+◌, ◌*◌, Bool, true, false, ◌&&◌, if◌then◌else◌, List, [], ◌∷◌, length, Option, Some, None, Result, Ok, Err}
-use Rattle.tp_model.specs.declared.limits.TheConstants.{MAX_STEPS}
-use Rattle.tp_model.specs.declared.link.Token.{Token}
-use Rattle.tp_model.specs.declared.link.Token.TheVariants.{Marker}
-use Rattle.tp_model.specs.declared.link.Received.{Received}
-use Rattle.tp_model.specs.Node.{t414}
-use Rattle.tp_model.specs.Network.{back, on_line, is_first}
-use Rattle.tp_model.specs.Acts.{Act, Close}
-use Rattle.tp_model.specs.NodeWrites.{node_ranges, kept_behind_steps}
-use Rattle.tp_model.specs.SharedPages.{LacksFrames}
-use Rattle.tp_model.specs.Turn.{by_link, turned}
-use Rattle.tp_law_network.specs.Reserved.{IsReceived, turn_acts}
-use Rattle.tp_law_machine.specs.NodeOfBytes.{IsNodeOfBytes}
-use Rattle.tp_node.specs.NodeContents.{NodeContents, memory_kept}
-use Rattle.tp_node.specs.RunEnd.{IsWhy}
-use Rattle.tp_book.specs.Needs.{has_recorded_in}
-use Rattle.tp_book.specs.declared.refusal.Refusal.{Refusal}
-use Rattle.tp_book.specs.declared.refusal.Refusal.TheVariants.{JournalFull, StoreBroken}
-use Rattle.tp_book.specs.Book.{BookValue, world_of}
-use Rattle.tp_book.specs.Calls.{with_run}
-use Rattle.tp_book.specs.Refusals.{else_if, reserve_refusal, take_refusal, IsAnswer}
-use Rattle.tp_book.specs.Turning.{takes_refusal}
+use Rattle.tp_turn.specs.Lower.{MAX_STEPS, Token, Marker, Received, t414, back, on_line, is_first, Act, Close, node_ranges, kept_behind_steps, LacksFrames, by_link, turned, IsReceived, turn_acts, IsNodeOfBytes, NodeContents, memory_kept, IsWhy, has_recorded_in, Refusal, JournalFull, StoreBroken, BookValue, world_of, with_run, else_if, reserve_refusal, take_refusal, IsAnswer, takes_refusal}
 use Rattle.tp_turn.specs.declared.receiving.Taken.{Taken}
 use Rattle.tp_turn.specs.declared.stages.Turn.{Turn}
 use Rattle.tp_turn.specs.Turns.{Then, InOrder}

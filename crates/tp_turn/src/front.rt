@@ -1,8 +1,7 @@
 //! A node at the fronts of the lines that come in.
 
 ghost use Rattle.std.specs.Prelude.{◌≡◌, ◌<◌, Some, None};
-ghost use Rattle.tp_model.specs.Network.{receiver};
-ghost use Rattle.tp_model.specs.declared.wire.WireEnd.TheVariants.{Link};
+ghost use Rattle.tp_turn.specs.Lower.{receiver, Link};
 ghost use Rattle.tp_turn.specs.Fronts.{FrontAnswers, OnLine, OnLink};
 ghost use Rattle.tp_turn.specs.Moments.{IsNodeOf, Done, moment_of};
 

@@ -1,8 +1,7 @@
 //! The node of an image that is tried, and its network.
 
 ghost use Rattle.std.specs.Prelude.{◌≡◌, IfOk};
-ghost use Rattle.tp_model.specs.Image.{node_at};
-ghost use Rattle.tp_book.specs.Parts.{network_made};
+ghost use Rattle.tp_turn.specs.Lower.{node_at, network_made};
 ghost use Rattle.tp_turn.specs.Tried.{ReadsFresh, lone_network};
 
 use std::alloc::{AllocError, Global};

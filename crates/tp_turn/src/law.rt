@@ -1,9 +1,7 @@
 //! Laws of trials. The functions do nothing; their contracts are the laws.
 
 ghost use Rattle.std.specs.Prelude.{◌≡◌, ℕ, List, Some, None};
-ghost use Rattle.tp_model.specs.NodeState.{NodeState};
-ghost use Rattle.tp_model.specs.Image.{page_count};
-ghost use Rattle.tp_model.specs.Format.{fresh_node};
+ghost use Rattle.tp_turn.specs.Lower.{NodeState, page_count, fresh_node};
 ghost use Rattle.tp_turn.specs.Output.{IsOutput};
 ghost use Rattle.tp_turn.specs.Tried.{fresh_image};
 

@@ -2,8 +2,7 @@
 //! So it is committed by how it was opened.
 
 ghost use Rattle.std.specs.Prelude.{◌≡◌, Some, None, true, false, length, slice_get};
-ghost use Rattle.tp_model.specs.Turn.{by_link, received};
-ghost use Rattle.tp_book.specs.Calls.{without_run};
+ghost use Rattle.tp_turn.specs.Lower.{by_link, received, without_run};
 ghost use Rattle.tp_turn.specs.Moments.{IsNodeOf, Added, moment_of};
 ghost use Rattle.tp_turn.specs.Opened.{HasTurnedBy, IsOpenedIn, OpensIn, opened_acts, taken_in};
 

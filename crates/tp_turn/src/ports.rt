@@ -1,8 +1,7 @@
 //! The host at the fronts of the lines that come to its ports.
 
 ghost use Rattle.std.specs.Prelude.{◌≡◌, ◌<◌, ◌||◌, Some, None, length};
-ghost use Rattle.tp_model.specs.Network.{receiver};
-ghost use Rattle.tp_model.specs.declared.wire.WireEnd.TheVariants.{Port as AtPort};
+ghost use Rattle.tp_turn.specs.Lower.{receiver, AtPort};
 ghost use Rattle.tp_turn.specs.Hosted.{HostDone, PortAnswers, OnPortLine, OnPort, HostTurns, is_for_room};
 
 use crate::left::Left;

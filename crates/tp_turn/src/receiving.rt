@@ -1,10 +1,7 @@
 //! What a node receives for a turn that is one entry. The tokens stay on their lines until the entry is journalled.
 
 ghost use Rattle.std.specs.Prelude.{◌≡◌, ◌<◌, ◌≤◌, ◌+◌, IsSome, Some, length};
-ghost use Rattle.tp_law_machine.specs.NodeOfBytes.{IsNodeOfBytes};
-ghost use Rattle.tp_model.specs.Node.{took};
-ghost use Rattle.tp_model.specs.Turn.{received};
-ghost use Rattle.tp_book.specs.Book.{count_of_nodes};
+ghost use Rattle.tp_turn.specs.Lower.{IsNodeOfBytes, took, received, count_of_nodes};
 ghost use Rattle.tp_turn.specs.Moments.{IsNodeOf};
 ghost use Rattle.tp_turn.specs.Receiving.{Answered, HasPlace, IsAhead, Receives, ReceivesOf, TakesOrLacks, offered, offered_on};
 

@@ -1,15 +1,7 @@
 //! A node's turn in its stages, so that the book is free while the node runs.
 
 ghost use Rattle.std.specs.Prelude.{◌≡◌, ◌≤◌, Some, None, true, false, slice_get};
-ghost use Rattle.tp_model.specs.declared.limits.TheConstants.{MAX_STEPS};
-ghost use Rattle.tp_model.specs.Network.{steps};
-ghost use Rattle.tp_model.specs.Node.{t414};
-ghost use Rattle.tp_model.specs.NodeWrites.{node_ranges, kept_behind_steps};
-ghost use Rattle.tp_model.specs.SharedPages.{LacksFrames};
-ghost use Rattle.tp_node.specs.NodeContents.{memory_kept};
-ghost use Rattle.tp_node.specs.RunEnd.{IsWhy};
-ghost use Rattle.tp_book.specs.Acts.{run_acts};
-ghost use Rattle.tp_book.specs.Calls.{without_run};
+ghost use Rattle.tp_turn.specs.Lower.{MAX_STEPS, steps, t414, node_ranges, kept_behind_steps, LacksFrames, memory_kept, IsWhy, run_acts, without_run};
 ghost use Rattle.tp_turn.specs.Moments.{IsNodeOf, Added, Done, moment_of};
 ghost use Rattle.tp_turn.specs.Stages.{Opens, HasRunOn, TurnsAs};
 

@@ -1,12 +1,7 @@
 //! A node's turn that is one entry, in its stages, so that the book is free while the node runs.
 
 ghost use Rattle.std.specs.Prelude.{◌≡◌, ◌++◌, ◌≤◌, ◌+◌, Some, None, true, false, length, slice_get};
-ghost use Rattle.tp_model.specs.declared.form.Form.TheVariants.{Turns};
-ghost use Rattle.tp_model.specs.declared.limits.TheConstants.{MAX_STEPS};
-ghost use Rattle.tp_law_network.specs.Reserved.{turn_acts};
-ghost use Rattle.tp_book.specs.Calls.{without_run};
-ghost use Rattle.tp_book.specs.Refusals.{reserve_refusal};
-ghost use Rattle.tp_book.specs.declared.refusal.Refusal.TheVariants.{JournalFull};
+ghost use Rattle.tp_turn.specs.Lower.{Turns, MAX_STEPS, turn_acts, without_run, reserve_refusal, JournalFull};
 ghost use Rattle.tp_turn.specs.Moments.{IsNodeOf, Added, Done, moment_of};
 ghost use Rattle.tp_turn.specs.Receiving.{IsAheadBy};
 ghost use Rattle.tp_turn.specs.Whole.{EndsWhole, HasTurnedOn, OpensWhole, TurnsWhole};

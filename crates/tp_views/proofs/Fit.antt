@@ -1,8 +1,8 @@
 -- What the answer of formatting says of the images.
-use Rattle.std.proofs.Common.{◌≡◌, Bool, Option, Some, None, IsSome, Ok, Err, refl}
-use Rattle.tp_area.specs.declared.fault.FormatFault.{FormatFault}
-use Rattle.tp_area.specs.declared.fault.FormatFault.TheVariants.{BadImage, Memory, AreaFull, DeviceFailed}
-use Rattle.tp_area.specs.Formatting.{FormatAnswer}
+use Rattle.std.proofs.Common.{◌≡◌, Bool, Option, Some, None, Ok, Err, refl}
+use Rattle.std.specs.Prelude.{IsSome}
+use Rattle.tp_views.proofs.Lower.{FormatFault, AreaFull, DeviceFailed, FormatAnswer}
+use Rattle.tp_area.specs.declared.fault.FormatFault.TheVariants.{BadImage, Memory}
 
 -- they fit if only room is lacking, and if the device was formatted
 pub fit_full : {A : Type 0} (start : Option A) (has_room : Bool) (fault : FormatFault) → fault ≡ AreaFull → FormatAnswer start has_room (Err fault) → IsSome start

@@ -1,5 +1,7 @@
+pub mod Lower
 mod DeviceTraced
 mod EntriesTraced
+mod EntriesBelow
 pub mod Fit
 pub mod Found
 pub mod Joined

@@ -1,19 +1,7 @@
 -- Reading a map.
 use Rattle.std.proofs.Common.{◌≡◌, ℕ, ◌+◌, ◌-◌, ◌<◌, ◌≤◌, ◌^◌, Bool, true, false, cond, List, [], ◌∷◌, length, take, drop, get_or, refl, sym, ap, subst, ◌∙◌, arith, inl, inr, Option, Some, None, Result, Ok, Err, length-drop}
-use Rattle.std.specs.Borrow.{Bor}
-use Rattle.std.specs.Char.{digit_value}
-use Rattle.std.specs.List.{list_all}
 use Rattle.std.specs.Prelude.{◌&&◌, ◌==◌, IfErr, IfSome, nat_le, position}
-use Rattle.std.specs.Str.{IsAscii, IsUtf8, is_utf8}
-use Rattle.std.specs.Str.Parse.{AllDigits, IsNumeral, ParsesUnsigned, digits_value, without_leading_plus}
-use Rattle.std.proofs.lemmas.Bool.{and_parts, and_right, cases_lt, cond-true, cond-false, eqb-true, leb-true, or_cases}
-use Rattle.std.proofs.lemmas.Bool.Decides.{nat_tests}
-use Rattle.std.proofs.lemmas.Int.Digits.{digits_value-lt}
-use Rattle.std.proofs.lemmas.List.{get_or_past, take_all}
-use Rattle.std.proofs.lemmas.Str.{IsUtf8-from_ascii, IsUtf8-from_is_utf8, is_utf8-from_IsUtf8}
-use Rattle.tp_model.specs.Results.{◌>>=◌}
-use Rattle.tp_model.specs.TopologyWords.{is_digit}
-use Rattle.tp_net.proofs.Numerals.{list_all_at}
+use Rattle.tp_views.proofs.Lower.{Bor, digit_value, list_all, IsAscii, IsUtf8, is_utf8, AllDigits, IsNumeral, ParsesUnsigned, digits_value, without_leading_plus, and_parts, and_right, cases_lt, cond-true, cond-false, eqb-true, leb-true, or_cases, nat_tests, digits_value-lt, get_or_past, take_all, IsUtf8-from_ascii, IsUtf8-from_is_utf8, is_utf8-from_IsUtf8, ◌>>=◌, is_digit, list_all_at}
 use Rattle.tp_views.specs.declared.maps.MapFault.{MapFault}
 use Rattle.tp_views.specs.declared.maps.MapFault.TheVariants.{Line, Memory}
 use Rattle.tp_views.specs.Maps.{IsMapFault, Row, after_line, after_lines, cut_row, is_address, is_hex_digit, is_plain, is_text, line_row, row_if}

@@ -1,10 +1,7 @@
 -- Moments of a trace, and what is printed of them.
-use Rattle.std.proofs.Common.{◌≡◌, ◌∙◌, ℕ, Bool, true, false, cond, List, [], ◌∷◌, ◌++◌, Option, Some, None, Result, Ok, Err, refl, sym, ap, subst, append_assoc, append-nil, bytes_eq}
-use Rattle.std.specs.Prelude.{IfOk, not}
-use Rattle.tp_model.specs.NodeState.{NodeState}
-use Rattle.tp_node.specs.Standing.{standing}
-use Rattle.tp_trace.specs.Lines.{stop_line}
-use Rattle.tp_trace.specs.Others.{Attended}
+use Rattle.std.proofs.Common.{◌≡◌, ◌∙◌, ℕ, Bool, true, false, cond, List, [], ◌∷◌, ◌++◌, Option, Some, None, Result, Ok, Err, refl, sym, ap, subst, append_assoc, append-nil, bytes_eq, IfOk}
+use Rattle.std.specs.Prelude.{not}
+use Rattle.tp_views.proofs.Lower.{NodeState, standing, stop_line, Attended}
 use Rattle.tp_views.specs.Maps.{Row}
 use Rattle.tp_views.specs.Stops.{steps_line, watch_text, watched}
 use Rattle.tp_views.specs.Traced.{Happens, Moment, PassesText, ended_text, last_line, moment_by, text_behind}
@@ -34,25 +31,12 @@ happened rows stops was there a now goes old mid new (line, is, text) tested the
     subst (λ (o : Option (List ℕ × Attended)). PassesText (moment_by rows stops was o) goes now old new) (sym is)
     (behind_passes rows stops now line old mid new goes (bytes_eq (watched stops.watch was) (watched stops.watch now.node)) tested text then)
 
--- nothing happens any more
-pub ended_passes : (rows : List Row) (stops : Stops) (there : Option (List ℕ × Attended)) (a now : Attended) (old mid new : List ℕ) → Happens false there a now old mid
-    → new ≡ mid ++ ended_text rows stops now.node → PassesText (moment_by rows stops a.node there) false now old new
-ended_passes rows stops there a now old mid new (is, same, text) then =
-    subst (λ (o : Option (List ℕ × Attended)). PassesText (moment_by rows stops a.node o) false now old new) (sym is) (record {
-      next = refl;
-      text = then ∙ ap (λ (xs : List ℕ). xs ++ ended_text rows stops now.node) text ∙ ap (λ (x : Attended). old ++ ended_text rows stops x.node) same;
-    })
-
 -- ## A stop before a line
 
 pub until_passes : (b : Bool) (text : List ℕ) (m : Moment) (now : Attended) (old new : List ℕ) → b ≡ true → new ≡ old ++ text
     → PassesText (cond b (record { text = text; next = None }) m) false now old new
 until_passes true text m now old new is said = record { next = refl; text = said }
 until_passes false text m now old new is said = absurd (cc is)
-
-pub other_passes : (b goes : Bool) (u m : Moment) (now : Attended) (old new : List ℕ) → b ≡ false → PassesText m goes now old new → PassesText (cond b u m) goes now old new
-other_passes true goes u m now old new is passes = absurd (cc is)
-other_passes false goes u m now old new is passes = passes
 
 -- ## Behind the last line
 
@@ -62,10 +46,6 @@ more_there stops node there a now old new (line, is, text) = ap (last_line stops
 pub none_there : (stops : Stops) (there : Option (List ℕ × Attended)) (a now : Attended) (old new : List ℕ) → Happens false there a now old new
     → last_line stops a.node there ≡ stop_line (standing now.node)
 none_there stops there a now old new (is, same, text) = ap (last_line stops a.node) is ∙ sym (ap (λ (x : Attended). stop_line (standing x.node)) same)
-
-pub until_last : (b : Bool) (u v old new : List ℕ) → b ≡ true → new ≡ old ++ u → new ≡ old ++ cond b u v
-until_last true u v old new is said = said
-until_last false u v old new is said = absurd (cc is)
 
 pub other_last : (b : Bool) (u v old new : List ℕ) → b ≡ false → new ≡ old ++ v → new ≡ old ++ cond b u v
 other_last true u v old new is said = absurd (cc is)

@@ -1,10 +1,6 @@
 -- Lines that are printed one after the other.
 use Rattle.std.proofs.Common.{◌≡◌, ◌∙◌, ℕ, zero, suc, ◌+◌, ◌<◌, ◌≤◌, true, false, List, [], ◌++◌, length, take, drop, Option, Some, None, Ok, Err, Result, OnOk, refl, sym, ap, subst, append_assoc, append-nil, arith}
-use Rattle.std.proofs.Math.Seq.{take-add, take-append_seam, drop-append_seam}
-use Rattle.std.proofs.lemmas.List.{take-append-drop}
-use Rattle.std.specs.Io.KnownBytes.{Appends}
-use Rattle.tp_stream_files.proofs.Fronts.{none_appended}
-use Rattle.tp_trace.specs.Others.{Attended}
+use Rattle.tp_views.proofs.Lower.{take-add, take-append_seam, drop-append_seam, take-append-drop, Appends, none_appended, Attended}
 use Rattle.tp_views.specs.Front.{AppendsFront}
 use Rattle.tp_views.specs.Maps.{Row}
 use Rattle.tp_views.specs.Traced.{Passes, behind, last_text, moment, traced}

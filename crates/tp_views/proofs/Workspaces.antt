@@ -1,11 +1,6 @@
 -- What is printed where a trace stops, part by part.
 use Rattle.std.proofs.Common.{◌≡◌, ◌∙◌, ℕ, suc, ◌+◌, ◌-◌, ◌*◌, ◌<◌, ◌≤◌, List, [], ◌∷◌, ◌++◌, length, take, drop, ap, sym, arith, append_assoc, append-nil, codes}
-use Rattle.std.proofs.lemmas.List.{length-take}
-use Rattle.tp_model.specs.Bytes.{u32_at}
-use Rattle.tp_model.specs.NodeState.{NodeState}
-use Rattle.tp_model.specs.declared.processor.Cpu.{Cpu}
-use Rattle.tp_trace.specs.Hex.{hex_word}
-use Rattle.tp_trace.specs.Stops.{memory_of}
+use Rattle.tp_views.proofs.Lower.{length-take, u32_at, NodeState, Cpu, hex_word, memory_of}
 use Rattle.tp_views.specs.Maps.{Row}
 use Rattle.tp_views.specs.NodeText.{cpu_lines}
 use Rattle.tp_views.specs.Stops.{memory_line, state_text, words_text, workspace_line}

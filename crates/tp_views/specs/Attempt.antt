@@ -1,11 +1,7 @@
 -- What `try` does.
 use Rattle.std.specs.Prelude.{◌≡◌, ℕ, List, Option, Some, None, IsSome, Result, Ok, Err}
-use Rattle.std.specs.Io.KnownBytes.{Appends}
-use Rattle.tp_model.specs.NodeState.{NodeState}
-use Rattle.tp_turn.specs.Output.{IsOutput}
-use Rattle.tp_turn.specs.Tried.{fresh_image}
+use Rattle.tp_views.specs.Lower.{Appends, NodeState, IsOutput, fresh_image, BadImage, Memory}
 use Rattle.tp_views.specs.declared.refusal.Refusal.{Refusal}
-use Rattle.tp_turn.specs.declared.image.TryFault.TheVariants.{BadImage, Memory}
 use Rattle.tp_views.specs.declared.refusal.Refusal.TheVariants.{Trial, DeviceFailed}
 use Rattle.tp_views.specs.declared.commands.TheConstants.{TRY_QUANTUM}
 
@@ -17,7 +13,7 @@ pub record PrintsTrial (image : List ℕ) (turns : ℕ) (was now : Option (List 
   pub tried : IsOutput node turns TRY_QUANTUM output
   pub shown : Appends was now output
 
--- The answer: an image that is none is refused. Nothing was written then, nor if memory ran out.
+-- What `try` answers. It refuses bytes that are no image. Nothing was written then, nor if memory ran out.
 abbrev pub TryAnswer : List ℕ → ℕ → Option (List ℕ) → Option (List ℕ) → Result (Unit {0}) Refusal → Type 0
 TryAnswer image turns was now (Ok done) = PrintsTrial image turns was now
 TryAnswer image turns was now (Err (Trial BadImage)) = (fresh_image image ≡ None) × (now ≡ was)

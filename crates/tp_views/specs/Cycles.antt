@@ -1,16 +1,13 @@
--- Which nodes wait for one another.
+-- Which nodes wait for each other.
 use Rattle.std.specs.Prelude.{ℕ, zero, suc, ◌+◌, ◌*◌, ◌/◌, ◌%◌, ◌^◌, ◌==◌, nat_lt, Bool, true, false, ◌&&◌, if◌then◌else◌, List, [], ◌∷◌, ◌++◌, map, length, get_or, is_some, Option, Some, None, bit_or, codes}
-use Rattle.std.specs.Fmt.{decimal}
-use Rattle.tp_model.specs.Network.{receiver}
-use Rattle.tp_model.specs.declared.wire.WireEnd.{WireEnd}
-use Rattle.tp_model.specs.declared.wire.WireEnd.TheVariants.{Link, Port as AtPort}
+use Rattle.tp_views.specs.Lower.{decimal, receiver, WireEnd, Link, AtPort}
 use Rattle.tp_views.specs.Scene.{Seen}
 use Rattle.tp_views.specs.Why.{waiting_at, why}
 use Rattle.tp_views.specs.declared.scene.NodeSeen.{NodeSeen}
 use Rattle.tp_views.specs.declared.why.Reason.{Reason}
 use Rattle.tp_views.specs.declared.why.Reason.TheVariants.{UnderWay, Halted, Runs, BothSend, BothInput, Elsewhere, Full, NoInput, NoWire}
 
--- ## Sets of nodes: bit j of a number says whether node j is in
+-- ## Sets of nodes: bit j of a number says whether node j is in the set
 
 abbrev pub bit_of : ℕ → ℕ
 bit_of node = if nat_lt node 64 then 2 ^ node else 0
@@ -18,9 +15,9 @@ bit_of node = if nat_lt node 64 then 2 ^ node else 0
 abbrev pub has : ℕ → ℕ → Bool
 has set node = nat_lt node 64 && (set / 2 ^ node) % 2 == 1
 
--- ## For whom a node waits
+-- ## For which nodes a node waits
 
--- both nodes rest, and nothing is on the wire between them
+-- whether both nodes rest and nothing is on the wire between them
 abbrev pub is_stuck : Reason → Bool
 is_stuck BothSend = true
 is_stuck BothInput = true
@@ -32,13 +29,13 @@ is_stuck Full = false
 is_stuck NoInput = false
 is_stuck NoWire = false
 
--- the node at an end
+-- the node at this end of a wire, as a set
 abbrev pub edge : Option WireEnd → ℕ
 edge None = 0
 edge (Some (Link j k)) = bit_of j
 edge (Some (AtPort p)) = 0
 
--- the node that a process waits for at an end of link k of node i, if one waits there
+-- the node for which a process waits at an end of link k of node i, as a set; empty if none waits there
 abbrev pub end_row : Seen → Bool → ℕ → NodeSeen → ℕ → ℕ
 end_row s sends i own k =
     if is_some (waiting_at own sends k) && is_stuck (why s sends own (4 * i + k)) then edge (receiver s.wires (4 * i + k)) else 0
@@ -49,32 +46,32 @@ link_row s i own k = bit_or (end_row s true i own k) (end_row s false i own k)
 abbrev pub row_of : Seen → ℕ → NodeSeen → ℕ
 row_of s i own = bit_or (bit_or (bit_or (link_row s i own 0) (link_row s i own 1)) (link_row s i own 2)) (link_row s i own 3)
 
--- for each of these nodes those that it waits for; the first one has this number
+-- for each of these nodes, the nodes for which it waits; the first node has the number that is given
 abbrev pub rows_in : Seen → ℕ → List NodeSeen → List ℕ
 rows_in s i [] = []
 rows_in s i (own ∷ nodes) = row_of s i own ∷ rows_in s (i + 1) nodes
 
 -- ## Also through others
 
--- Who waits for a node waits for those, too, that it waits for.
+-- A row together with `through`: if a node waits for another one, it also waits for the nodes for which that one waits.
 abbrev pub passed : ℕ → ℕ → ℕ → ℕ
 passed node through row = if has row node then bit_or row through else row
 
 abbrev pub leads : ℕ → List ℕ → List ℕ
 leads node rows = map (passed node (get_or rows node 0)) rows
 
--- through the first of the nodes, that many
+-- the rows after that is done for the first of the nodes, as many as are given
 abbrev pub closed : ℕ → List ℕ → List ℕ
 closed zero rows = rows
 closed (suc node) rows = leads node (closed node rows)
 
--- ## Those that wait for one another
+-- ## Nodes that wait for each other
 
--- nodes i and j, by those that each waits for
+-- whether nodes i and j wait for each other, by their rows
 abbrev pub is_together : ℕ → ℕ → ℕ → ℕ → Bool
 is_together mine i row j = has mine j && has row i
 
--- the first one of those with which node i does; the first row is that of node j
+-- the first of the nodes that wait for each other together with node i; the first row is that of node j
 abbrev pub first_of : ℕ → ℕ → ℕ → List ℕ → Option ℕ
 first_of mine i j [] = None
 first_of mine i j (row ∷ rows) = if is_together mine i row j then Some j else first_of mine i (j + 1) rows
@@ -93,7 +90,7 @@ abbrev pub members : ℕ → ℕ → ℕ → List ℕ → List ℕ
 members mine i j [] = []
 members mine i j (row ∷ rows) = member mine i row j ++ members mine i (j + 1) rows
 
--- a line, at the first of them
+-- their line, at the first of them
 abbrev pub cycle_part : ℕ → ℕ → List ℕ → List ℕ
 cycle_part mine i rows = if is_first mine i rows then codes "cycle: nodes" ++ (members mine i 0 rows ++ codes "\n") else []
 
@@ -101,7 +98,7 @@ abbrev pub cycles_from : List ℕ → ℕ → List ℕ → List ℕ
 cycles_from rows i [] = []
 cycles_from rows i (mine ∷ more) = cycle_part mine i rows ++ cycles_from rows (i + 1) more
 
--- for each node of a network those that it waits for, directly or through others
+-- for each node of a network, the nodes for which it waits, itself or through others
 abbrev pub reached : Seen → List ℕ
 reached s = closed (length (rows_in s 0 s.nodes)) (rows_in s 0 s.nodes)
 

@@ -1,10 +1,6 @@
 -- What `waits --dot` prints: a graph for Graphviz, with each node and what it does, each wire, and an edge for each process that waits.
 use Rattle.std.specs.Prelude.{ℕ, ◌+◌, ◌-◌, ◌*◌, Bool, true, false, if◌then◌else◌, List, [], ◌∷◌, ◌++◌, length, Option, Some, None, codes}
-use Rattle.std.specs.Fmt.{decimal}
-use Rattle.tp_model.specs.Network.{receiver}
-use Rattle.tp_model.specs.declared.wire.WireEnd.{WireEnd}
-use Rattle.tp_model.specs.declared.wire.WireEnd.TheVariants.{Link, Port as AtPort}
-use Rattle.tp_trace.specs.Names.{fault_name}
+use Rattle.tp_views.specs.Lower.{decimal, receiver, WireEnd, Link, AtPort, fault_name}
 use Rattle.tp_views.specs.Maps.{Maps, Row, rows_of, spot_text}
 use Rattle.tp_views.specs.Scene.{Seen}
 use Rattle.tp_views.specs.Sums.{why_name}

@@ -1,11 +1,11 @@
 -- How values are spelt for scripts, as JSON: numbers, fixed names, and lists of them.
 use Rattle.std.specs.Prelude.{ℕ, ◌+◌, ◌==◌, Bool, if◌then◌else◌, List, [], ◌∷◌, ◌++◌, codes}
 
--- what is before an item of a list that has that many before it
+-- what comes before an item of a list, if this many items come before it
 abbrev pub comma : ℕ → List ℕ
 comma before = if before == 0 then [] else codes ","
 
--- items with commas between them, if that many are before them
+-- items with commas between them, if this many come before them
 abbrev pub json_items : ℕ → List (List ℕ) → List ℕ
 json_items before [] = []
 json_items before (item ∷ items) = (comma before ++ item) ++ json_items (before + 1) items
@@ -14,6 +14,6 @@ json_items before (item ∷ items) = (comma before ++ item) ++ json_items (befor
 abbrev pub json_list : List (List ℕ) → List ℕ
 json_list items = codes "[" ++ (json_items 0 items ++ codes "]")
 
--- whether something is so
+-- the word for whether something is true
 abbrev pub json_bool : Bool → List ℕ
 json_bool is_so = if is_so then codes "true" else codes "false"

@@ -1,21 +1,10 @@
 -- What `node --json` prints of a node.
 use Rattle.std.specs.Prelude.{ℕ, Bool, List, ◌++◌, map, Option, Some, None, codes}
-use Rattle.std.specs.Fmt.{decimal}
-use Rattle.tp_model.specs.declared.link.InEnd.{InEnd}
-use Rattle.tp_model.specs.declared.link.InEnd.TheVariants.{Idle as InIdle, Inputs, Enabled}
-use Rattle.tp_model.specs.declared.link.OutEnd.{OutEnd}
-use Rattle.tp_model.specs.declared.link.OutEnd.TheVariants.{Idle as OutIdle, Waits}
-use Rattle.tp_model.specs.declared.link.Transfer.{Transfer}
-use Rattle.tp_model.specs.declared.processor.Cpu.{Cpu}
-use Rattle.tp_model.specs.declared.processor.Fault.{Fault}
-use Rattle.tp_model.specs.declared.processor.Queue.{Queue}
-use Rattle.tp_model.specs.declared.processor.State.{State}
-use Rattle.tp_model.specs.Image.{halt_byte, page_count}
-use Rattle.tp_model.specs.NodeState.{NodeState}
+use Rattle.tp_views.specs.Lower.{decimal, InEnd, InIdle, Inputs, Enabled, OutEnd, OutIdle, Transfer, Cpu, Fault, Queue, State, halt_byte, page_count, NodeState, state_name}
+use Rattle.tp_model.specs.declared.link.OutEnd.TheVariants.{Waits}
 use Rattle.tp_views.specs.Json.{json_bool, json_list}
 use Rattle.tp_views.specs.JsonMaps.{spot_fields}
 use Rattle.tp_views.specs.Maps.{Row}
-use Rattle.tp_trace.specs.Names.{state_name}
 use Rattle.tp_views.specs.Names.{halt_name}
 
 -- ## The processor
@@ -52,11 +41,11 @@ cpu_fields rows cpu =
 
 -- ## The links
 
--- an end at which nothing is under way
+-- the item of an end at which nothing is under way
 abbrev pub idle_item : List ℕ
 idle_item = codes "{\"state\":\"idle\"}"
 
--- an end at which a process waits: what it does, the process, if the next byte is or goes, and how many bytes are left
+-- the item of an end at which a process waits: what it does, the process, the address of the next byte, and how many bytes are left
 abbrev pub working_item : List ℕ → Transfer → List ℕ
 working_item what t =
     codes "{\"state\":\"" ++ (what ++ (codes "\",\"process\":" ++ (decimal t.process
@@ -66,7 +55,7 @@ abbrev pub output_item : OutEnd → List ℕ
 output_item OutIdle = idle_item
 output_item (Waits t) = working_item (codes "waits") t
 
--- an input end may hold a byte; of an alternative there is its process alone
+-- The item of an input end. It may hold a byte; in an alternative there is only its process.
 abbrev pub input_item : InEnd → List ℕ
 input_item (InIdle None) = idle_item
 input_item (InIdle (Some byte)) = codes "{\"state\":\"idle\",\"held\":" ++ (decimal byte ++ codes "}")
@@ -75,12 +64,12 @@ input_item (Enabled process) = codes "{\"state\":\"enabled\",\"process\":" ++ (d
 
 -- ## The node
 
--- the node with this number, by its pages, its processor and its ends, which are at their links' numbers
+-- the node with this number, by its pages, its processor and its ends; each end is at its link's number
 abbrev pub node_fields : List Row → ℕ → ℕ → Cpu → List OutEnd → List InEnd → List ℕ
 node_fields rows number pages cpu outputs inputs =
     number_fields number pages cpu.halt ++ (cpu_fields rows cpu ++ (codes ",\"out\":" ++ (json_list (map output_item outputs)
     ++ (codes ",\"in\":" ++ json_list (map input_item inputs)))))
 
--- All that is printed of it, up to what it has done, which ends the object.
+-- All that is printed of a node, up to what it has done, which ends the object.
 abbrev pub node_json : List Row → ℕ → NodeState → List ℕ
 node_json rows number node = node_fields rows number (page_count node.memory) node.cpu node.outputs node.inputs

@@ -1,14 +1,11 @@
 -- What `show --json` prints of a device.
 use Rattle.std.specs.Prelude.{ℕ, List, ◌++◌, map, length, codes}
-use Rattle.std.specs.Fmt.{decimal}
-use Rattle.tp_model.specs.NodeState.{NodeState}
-use Rattle.tp_model.specs.Image.{halt_byte}
-use Rattle.tp_model.specs.Network.{Port, Network}
+use Rattle.tp_views.specs.Lower.{decimal, NodeState, halt_byte, Port, Network}
 use Rattle.tp_views.specs.Json.{json_list}
 use Rattle.tp_views.specs.Shown.{area_number}
 use Rattle.tp_views.specs.declared.shown.Front.{Front}
 
--- a node's halt code
+-- the item of a node: its halt code
 abbrev pub node_item : NodeState → List ℕ
 node_item node = codes "{\"halt\":" ++ (decimal (halt_byte node.cpu.halt) ++ codes "}")
 
@@ -36,8 +33,7 @@ entry_fields base entries next =
 abbrev pub front_fields : Front → List ℕ
 front_fields front = area_fields front.area (area_number front.second) front.generation ++ entry_fields front.base front.entries front.next
 
--- All that is printed of a device whose front is this and whose network after the last entry is that: each node and each port is
--- at its number.
+-- All that is printed of a device, by its front and its network after the last entry. Each node and each port is at its number.
 abbrev pub show_json : Front → Network NodeState → List ℕ
 show_json front now =
     codes "{\"nodes\":" ++ (json_list (map node_item now.nodes) ++ (codes ",\"ports\":" ++ (json_list (map port_item now.ports)

@@ -1,27 +1,17 @@
 -- What `status --json` prints of one check of a device: an object on a line.
 use Rattle.std.specs.Prelude.{ℕ, ◌+◌, ◌-◌, ◌*◌, ◌/◌, ◌==◌, Bool, if◌then◌else◌, List, [], ◌∷◌, ◌++◌, length, codes, Option, Some, None}
-use Rattle.std.specs.Fmt.{decimal}
-use Rattle.tp_model.specs.NodeState.{NodeState}
-use Rattle.tp_model.specs.Network.{Port}
-use Rattle.tp_model.specs.Opening.{Opened, next_of}
-use Rattle.tp_model.specs.declared.entry.Entry.{Entry}
-use Rattle.tp_model.specs.declared.form.Form.{Form}
-use Rattle.tp_model.specs.declared.wire.WireEnd.{WireEnd}
-use Rattle.tp_node.specs.Standing.{standing}
-use Rattle.tp_node.specs.declared.standing.Standing.{Standing}
-use Rattle.tp_node.specs.declared.standing.Standing.TheVariants.{Halted, Waits, Free}
+use Rattle.tp_views.specs.Lower.{decimal, NodeState, Port, Opened, next_of, Entry, Form, WireEnd, standing, Standing, Halted, Waits, Free, fault_name}
 use Rattle.tp_views.specs.Done.{steps_made, total}
 use Rattle.tp_views.specs.declared.done.Count.TheVariants.{Entries, Steps}
 use Rattle.tp_views.specs.Json.{json_items}
 use Rattle.tp_views.specs.TimeOfDay.{time_field}
-use Rattle.tp_trace.specs.Names.{fault_name}
 use Rattle.tp_views.specs.Names.{form_name}
 use Rattle.tp_views.specs.Status.{bytes_accepted, accepted_before, millis_since, next_before, out_before, percent, port_before, bytes_put_out, entries_room, status_line}
 use Rattle.tp_views.specs.declared.status.PortSeen.{PortSeen}
 use Rattle.tp_views.specs.declared.status.Seen.{Seen}
 use Rattle.tp_views.specs.declared.status.Since.{Since}
 
--- by how much a count grew in a second, rounded down; null if it wasn't seen before
+-- by how much a count grew in a second, rounded down; `null` if it wasn't seen before
 abbrev pub rate : ℕ → Option Since → List ℕ
 rate now None = codes "null"
 rate now (Some since) = if since.millis == 0 then codes "null" else decimal ((now - since.count) * 1000 / since.millis)
@@ -30,7 +20,7 @@ rate now (Some since) = if since.millis == 0 then codes "null" else decimal ((no
 abbrev pub running_part : Bool → List ℕ
 running_part held = if held then codes "{\"running\":true" else codes "{\"running\":false"
 
--- which checkpoint it has
+-- which checkpoint the device has
 abbrev pub generation_part : ℕ → List ℕ
 generation_part generation = codes ",\"generation\":" ++ decimal generation
 
@@ -61,7 +51,7 @@ pending_part pending = codes ",\"pending\":" ++ decimal pending
 abbrev pub accepted_json : ℕ → Option Since → ℕ → List ℕ
 accepted_json now since pending = accepted_front now ++ (rate now since ++ pending_part pending)
 
--- what it has put out, and how much of that isn't confirmed
+-- what a port has put out, and how much of that isn't confirmed
 abbrev pub out_front : ℕ → List ℕ
 out_front now = codes ",\"put_out\":" ++ (decimal now ++ codes ",\"put_out_per_second\":")
 
@@ -105,12 +95,12 @@ counts_item entries steps = codes "{\"entries\":" ++ (decimal entries ++ (codes 
 abbrev pub node_item : ℕ → List (Option WireEnd) → ℕ → List (Entry × ℕ) → List ℕ
 node_item number wires N kept = counts_item (total Entries (Some number) wires N kept) (total Steps (Some number) wires N kept)
 
--- each node stands at its number
+-- each node is at its number
 abbrev pub node_items : ℕ → List (Option WireEnd) → ℕ → List (Entry × ℕ) → List NodeState → List (List ℕ)
 node_items number wires N kept [] = []
 node_items number wires N kept (node ∷ nodes) = node_item number wires N kept ∷ node_items (number + 1) wires N kept nodes
 
--- how many steps all made, and each of them
+-- how many steps all nodes made, and how many each of them made
 abbrev pub steps_json : ℕ → List ℕ
 steps_json steps = codes ",\"steps\":" ++ (decimal steps ++ codes ",\"nodes\":[")
 
@@ -119,14 +109,14 @@ done_json o =
     steps_json (steps_made o)
     ++ (json_items 0 (node_items 0 o.head.topology.wires (length o.now.nodes) o.kept o.now.nodes) ++ codes "]")
 
--- The object of a device that opened, whether a process held it or none did, at a time in milliseconds, after what a look before saw. `clock` is
--- the time since 1970, if the object has one.
+-- The object of a device that opened. `held` says whether a process held it, `at` is the time in milliseconds, and `before` is what the check before
+-- saw. `clock` is the time since 1970; with `None` the object has no time of day.
 abbrev pub status_json : Bool → ℕ → Option ℕ → Option Seen → Opened → List ℕ
 status_json held at clock before o =
     front_json held o.generation o.form (next_of o) (next_before at before)
     ++ (journal_json (length o.kept) (entries_room o)
     ++ (json_items 0 (port_items 0 at before o.now.ports) ++ (halts_json o.now.nodes ++ (done_json o ++ time_field clock))))
 
--- What is printed of it, as JSON or not.
+-- What is printed of the device, as JSON or not.
 abbrev pub look_text : Bool → Bool → ℕ → Option ℕ → Option Seen → Opened → List ℕ
 look_text json held at clock before o = if json then status_json held at clock before o else status_line held at clock before o

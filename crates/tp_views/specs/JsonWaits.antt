@@ -1,12 +1,6 @@
 -- What `waits --json` prints.
 use Rattle.std.specs.Prelude.{ℕ, ◌+◌, ◌-◌, Bool, true, false, if◌then◌else◌, List, [], ◌∷◌, ◌++◌, get_or, length, Option, Some, None, codes}
-use Rattle.std.specs.Fmt.{decimal}
-use Rattle.tp_model.specs.declared.entry.Entry.{Entry}
-use Rattle.tp_model.specs.declared.processor.Fault.{Fault}
-use Rattle.tp_model.specs.declared.wire.WireEnd.{WireEnd}
-use Rattle.tp_model.specs.declared.wire.WireEnd.TheVariants.{Link, Port as AtPort}
-use Rattle.tp_node.specs.declared.waiter.Waiter.{Waiter}
-use Rattle.tp_trace.specs.Names.{fault_name}
+use Rattle.tp_views.specs.Lower.{decimal, Entry, Fault, WireEnd, Link, AtPort, Waiter, fault_name}
 use Rattle.tp_views.specs.Cycles.{first_of, reached}
 use Rattle.tp_views.specs.Json.{comma}
 use Rattle.tp_views.specs.JsonMaps.{spot_fields}

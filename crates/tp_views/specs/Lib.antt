@@ -1,3 +1,4 @@
+pub mod Lower
 pub mod Maps
 pub mod JsonMaps
 pub mod NodeMaps

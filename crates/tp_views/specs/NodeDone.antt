@@ -1,19 +1,17 @@
 -- What `node` prints of what a node has done since the checkpoint.
 use Rattle.std.specs.Prelude.{ℕ, Bool, if◌then◌else◌, List, [], ◌∷◌, ◌++◌, Option, Some, codes}
-use Rattle.std.specs.Fmt.{decimal}
-use Rattle.tp_model.specs.declared.entry.Entry.{Entry}
-use Rattle.tp_model.specs.declared.wire.WireEnd.{WireEnd}
+use Rattle.tp_views.specs.Lower.{decimal, Entry, WireEnd}
 use Rattle.tp_views.specs.Done.{total}
 use Rattle.tp_views.specs.declared.done.Count.TheVariants.{Entries, Steps, BytesIn, BytesOut}
 
 -- ## Lines
 
--- how many entries and steps it has made since the checkpoint, which holds that many entries
+-- the line of how many entries and steps the node has made since the checkpoint, which holds `base` entries
 abbrev pub counts_line : ℕ → ℕ → ℕ → List ℕ
 counts_line base entries steps =
     codes "since " ++ (decimal base ++ (codes " entries " ++ (decimal entries ++ (codes " steps " ++ (decimal steps ++ 10 ∷ [])))))
 
--- how many bytes came in at a link, and how many went out
+-- the line of how many bytes came in at a link, and how many went out
 abbrev pub bytes_line : ℕ → ℕ → ℕ → List ℕ
 bytes_line link came went = codes "bytes " ++ (decimal link ++ (codes " in " ++ (decimal came ++ (codes " out " ++ (decimal went ++ 10 ∷ [])))))
 
@@ -24,7 +22,7 @@ abbrev pub link_lines : ℕ → List (Option WireEnd) → ℕ → List (Entry ×
 link_lines node wires N kept =
     link_line node 0 wires N kept ++ (link_line node 1 wires N kept ++ (link_line node 2 wires N kept ++ link_line node 3 wires N kept))
 
--- all lines, of the entries after a checkpoint that holds `base` of them, in a network of these wires and N nodes
+-- all lines, for the entries after a checkpoint, which holds `base` entries, in a network of these wires and N nodes
 abbrev pub done_lines : ℕ → ℕ → List (Option WireEnd) → ℕ → List (Entry × ℕ) → List ℕ
 done_lines node base wires N kept =
     counts_line base (total Entries (Some node) wires N kept) (total Steps (Some node) wires N kept) ++ link_lines node wires N kept
@@ -44,16 +42,16 @@ link_item node link wires N kept = bytes_item (total (BytesIn link) (Some node) 
 abbrev pub further_item : ℕ → ℕ → List (Option WireEnd) → ℕ → List (Entry × ℕ) → List ℕ
 further_item node link wires N kept = codes "," ++ link_item node link wires N kept
 
--- each link stands at its number
+-- each link is at its number
 abbrev pub link_items : ℕ → List (Option WireEnd) → ℕ → List (Entry × ℕ) → List ℕ
 link_items node wires N kept =
     link_item node 0 wires N kept ++ (further_item node 1 wires N kept ++ (further_item node 2 wires N kept ++ further_item node 3 wires N kept))
 
--- all fields, with what ends the node's object
+-- all fields, and what ends the node's object
 abbrev pub done_fields : ℕ → ℕ → List (Option WireEnd) → ℕ → List (Entry × ℕ) → List ℕ
 done_fields node base wires N kept =
     counts_fields base (total Entries (Some node) wires N kept) (total Steps (Some node) wires N kept) ++ (link_items node wires N kept ++ codes "]}\n")
 
--- What is shown of it, as JSON or not.
+-- What is shown of what a node has done, as JSON or not.
 abbrev pub done_shown : Bool → ℕ → ℕ → List (Option WireEnd) → ℕ → List (Entry × ℕ) → List ℕ
 done_shown json node base wires N kept = if json then done_fields node base wires N kept else done_lines node base wires N kept

@@ -1,4 +1,4 @@
--- The maps of a device's nodes as they are kept, and why one isn't read.
+-- The maps of a device's nodes as code keeps them, and why one can't be read.
 use Rattle.std.specs.Prelude.{◌≡◌, ℕ, List, map}
 use Rattle.tp_views.specs.Maps.{IsMapFault, Maps, read_map, rows_seen}
 use Rattle.tp_views.specs.declared.maps.MapFault.{MapFault}
@@ -15,6 +15,6 @@ abbrev pub refusal_of : MapFile → MapFault → Refusal
 refusal_of file (Line number) = BadMap file number
 refusal_of file NoMemory = Memory
 
--- Why the map in a file isn't read: a line of it, counted from 1, is no line of a map; or out of memory.
+-- Why the map in a file can't be read: a line of it, counted from 1, isn't one of a map; or memory ran out.
 abbrev pub IsMapRefusal : List ℕ → MapFile → Refusal → Type 0
 IsMapRefusal text file refusal = (fault : MapFault) × IsMapFault (read_map text) fault × (refusal ≡ refusal_of file fault)

@@ -1,26 +1,13 @@
 -- The lines that `node` prints of a node.
 use Rattle.std.specs.Prelude.{ℕ, ◌+◌, Bool, List, [], ◌∷◌, ◌++◌, Option, Some, None, codes}
-use Rattle.std.specs.Fmt.{decimal}
-use Rattle.tp_model.specs.declared.link.InEnd.{InEnd}
-use Rattle.tp_model.specs.declared.link.InEnd.TheVariants.{Idle as InIdle, Inputs, Enabled}
-use Rattle.tp_model.specs.declared.link.OutEnd.{OutEnd}
-use Rattle.tp_model.specs.declared.link.OutEnd.TheVariants.{Idle as OutIdle, Waits}
-use Rattle.tp_model.specs.declared.link.Transfer.{Transfer}
-use Rattle.tp_model.specs.declared.processor.Cpu.{Cpu}
-use Rattle.tp_model.specs.declared.processor.Fault.{Fault}
-use Rattle.tp_model.specs.declared.processor.Queue.{Queue}
-use Rattle.tp_model.specs.declared.processor.State.{State}
-use Rattle.tp_model.specs.Image.{halt_byte, page_count}
-use Rattle.tp_model.specs.NodeState.{NodeState}
-use Rattle.tp_model.specs.Word.{bit}
-use Rattle.tp_trace.specs.Hex.{hex_byte, hex_word}
-use Rattle.tp_trace.specs.Names.{state_name}
+use Rattle.tp_views.specs.Lower.{decimal, InEnd, InIdle, Inputs, Enabled, OutEnd, OutIdle, Transfer, Cpu, Fault, Queue, State, halt_byte, page_count, NodeState, bit, hex_byte, hex_word, state_name}
+use Rattle.tp_model.specs.declared.link.OutEnd.TheVariants.{Waits}
 use Rattle.tp_views.specs.Maps.{Row, spot_text}
 use Rattle.tp_views.specs.Names.{halt_name}
 
 -- ## The processor
 
--- its number, its pages, and why it halted: the code and its name
+-- the line of its number, its pages, and why it halted: the code and its name
 abbrev pub number_line : ℕ → ℕ → Option Fault → List ℕ
 number_line number pages halt =
     codes "node " ++ (decimal number ++ (codes " pages " ++ (decimal pages ++ (codes " halt " ++ (decimal (halt_byte halt) ++ (codes " " ++ (halt_name halt ++ 10 ∷ [])))))))
@@ -50,11 +37,11 @@ cpu_lines rows cpu =
 
 -- ## The links
 
--- an end at which nothing is under way
+-- the line of an end at which nothing is under way
 abbrev pub idle_line : List ℕ → ℕ → List ℕ
 idle_line side link = side ++ (codes " " ++ (decimal link ++ (codes " idle" ++ 10 ∷ [])))
 
--- an end at which a process waits: what it does, the process, if the next byte is or goes, and how many bytes are left
+-- the line of an end at which a process waits: what it does, the process, the address of the next byte, and how many bytes are left
 abbrev pub working_line : List ℕ → ℕ → List ℕ → Transfer → List ℕ
 working_line side link what t =
     side ++ (codes " " ++ (decimal link ++ (codes " " ++ (what ++ (codes " process " ++ (hex_word t.process
@@ -64,11 +51,11 @@ abbrev pub output_line : ℕ → OutEnd → List ℕ
 output_line link OutIdle = idle_line (codes "out") link
 output_line link (Waits t) = working_line (codes "out") link (codes "waits") t
 
--- an input end that holds a byte
+-- the line of an input end that holds a byte
 abbrev pub held_line : ℕ → ℕ → List ℕ
 held_line link byte = codes "in " ++ (decimal link ++ (codes " idle held " ++ (hex_byte byte ++ 10 ∷ [])))
 
--- an input end may hold a byte; of an alternative there is its process alone
+-- The line of an input end. It may hold a byte; in an alternative there is only its process.
 abbrev pub input_end_line : ℕ → InEnd → List ℕ
 input_end_line link (InIdle None) = idle_line (codes "in") link
 input_end_line link (InIdle (Some byte)) = held_line link byte
@@ -85,11 +72,11 @@ input_lines link (end ∷ ends) = input_end_line link end ++ input_lines (link +
 
 -- ## The node
 
--- the node with this number, by its pages, its processor and its ends
+-- the lines of the node with this number, by its pages, its processor and its ends
 abbrev pub node_as_lines : List Row → ℕ → ℕ → Cpu → List OutEnd → List InEnd → List ℕ
 node_as_lines rows number pages cpu outputs inputs =
     number_line number pages cpu.halt ++ (cpu_lines rows cpu ++ (output_lines 0 outputs ++ input_lines 0 inputs))
 
--- All that is printed of it, if its map has these rows.
+-- All that is printed of a node, if its map has these rows.
 abbrev pub node_text : List Row → ℕ → NodeState → List ℕ
 node_text rows number node = node_as_lines rows number (page_count node.memory) node.cpu node.outputs node.inputs

@@ -1,13 +1,11 @@
 -- What `recover` and `show` do.
 use Rattle.std.specs.Prelude.{◌≡◌, ℕ, Bool, if◌then◌else◌, List, length, Option, Ok}
-use Rattle.std.specs.Io.KnownBytes.{Appends}
-use Rattle.tp_model.specs.Disk.{Moment, Sync, done}
-use Rattle.tp_model.specs.Opening.{Opened, verdict, next_of}
+use Rattle.tp_views.specs.Lower.{Appends, Moment, Sync, done, Opened, verdict, next_of}
 use Rattle.tp_views.specs.declared.shown.Front.{Front}
 use Rattle.tp_views.specs.JsonShow.{show_json}
 use Rattle.tp_views.specs.Shown.{shown_text, next_line}
 
--- what is said of an opened device beside its network
+-- what is said of an opened device besides its network
 abbrev pub front_said : Opened → Front
 front_said o = record {
   area = o.head.areas.length;
@@ -18,15 +16,15 @@ front_said o = record {
   next = next_of o;
 }
 
--- what is printed of it
+-- what `recover` prints of an opened device
 abbrev pub recovered : Opened → List ℕ
 recovered o = next_line (next_of o)
 
--- its lines, or one line of JSON
+-- what `show` prints of an opened device: its lines, or one line of JSON
 abbrev pub shown : Bool → Opened → List ℕ
 shown json o = if json then show_json (front_said o) o.now else shown_text (front_said o) o.now
 
--- The device opens, and exactly that is printed of it.
+-- The device opens, and exactly that text was printed.
 pub record Prints (text : Opened → List ℕ) (bytes : List ℕ) (was now : Option (List ℕ)) : Type 0 where
   pub opened : Opened
   pub is : verdict bytes ≡ Ok opened

@@ -1,7 +1,6 @@
 -- The addresses that places name.
 use Rattle.std.specs.Prelude.{◌≡◌, ℕ, List, if◌then◌else◌, Option, Some, None, IsSome}
-use Rattle.std.specs.Option.{option_and_then, option_map}
-use Rattle.std.specs.Str.Parse.{digits_value}
+use Rattle.tp_views.specs.Lower.{option_and_then, option_map, digits_value}
 use Rattle.tp_views.specs.Maps.{Row, address_of, is_address}
 use Rattle.tp_views.specs.declared.refusal.Refusal.{Refusal}
 use Rattle.tp_views.specs.declared.refusal.Refusal.TheVariants.{NoPlace}

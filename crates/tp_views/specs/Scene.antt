@@ -1,13 +1,6 @@
 -- What of a network's nodes, lines and ports says who waits for whom.
 use Rattle.std.specs.Prelude.{Bool, true, false, not, ◌==◌, nat_le, if◌then◌else◌, List, [], ◌∷◌, map, length, Option, Some, None, slice_get}
-use Rattle.tp_model.specs.Network.{Network, Port}
-use Rattle.tp_model.specs.NodeState.{NodeState}
-use Rattle.tp_model.specs.declared.limits.TheConstants.{MAX_HELD}
-use Rattle.tp_model.specs.declared.link.Token.{Token}
-use Rattle.tp_model.specs.declared.processor.Fault.{Fault}
-use Rattle.tp_model.specs.declared.wire.WireEnd.{WireEnd}
-use Rattle.tp_node.specs.Rest.{has_nobody}
-use Rattle.tp_node.specs.Waiters.{listener, sender}
+use Rattle.tp_views.specs.Lower.{Network, Port, NodeState, MAX_HELD, Token, Fault, WireEnd, has_nobody, listener, sender}
 use Rattle.tp_views.specs.declared.scene.Doing.{Doing}
 use Rattle.tp_views.specs.declared.scene.Doing.TheVariants.{Halted, Runs, Rests}
 use Rattle.tp_views.specs.declared.scene.NodeSeen.{NodeSeen}

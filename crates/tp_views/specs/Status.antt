@@ -1,18 +1,6 @@
 -- The line that `status` prints of a device.
 use Rattle.std.specs.Prelude.{◌≡◌, ℕ, ◌+◌, ◌-◌, ◌*◌, ◌/◌, ◌==◌, Bool, if◌then◌else◌, List, [], ◌∷◌, ◌++◌, length, map, codes, Option, Some, None, slice_get}
-use Rattle.std.specs.Fmt.{decimal}
-use Rattle.std.specs.Option.{option_map}
-use Rattle.tp_area.specs.Capacity.{journal_of}
-use Rattle.tp_model.specs.NodeState.{NodeState}
-use Rattle.tp_model.specs.Network.{Port}
-use Rattle.tp_model.specs.Opening.{Opened, next_of}
-use Rattle.tp_model.specs.declared.form.Form.{Form}
-use Rattle.tp_node.specs.Standing.{standing}
-use Rattle.tp_recover.specs.EntriesLeft.{entries_left}
-use Rattle.tp_node.specs.declared.standing.Standing.{Standing}
-use Rattle.tp_node.specs.declared.standing.Standing.TheVariants.{Halted, Waits, Free}
-use Rattle.tp_trace.specs.Hex.{hex_word}
-use Rattle.tp_trace.specs.Names.{fault_name}
+use Rattle.tp_views.specs.Lower.{decimal, option_map, journal_of, NodeState, Port, Opened, next_of, Form, standing, entries_left, Standing, Halted, Waits, Free, hex_word, fault_name}
 use Rattle.tp_views.specs.Done.{steps_made}
 use Rattle.tp_views.specs.Names.{form_name}
 use Rattle.tp_views.specs.TimeOfDay.{time_part}
@@ -31,27 +19,27 @@ bytes_put_out port = port.out_base + length port.outputs
 abbrev pub port_seen : Port → PortSeen
 port_seen port = record { accepted = bytes_accepted port; out = bytes_put_out port }
 
--- what a check sees that the next one compares with
+-- what a check sees, with which the next one compares
 pub record IsSeen (at : ℕ) (o : Opened) (seen : Seen) : Type 0 where
   pub time : seen.at ≡ at
   pub next : seen.next ≡ next_of o
   pub ports : seen.ports.items ≡ map port_seen o.now.ports
 
--- a count, and how many milliseconds before it was seen
+-- the number of the next entry at the check before, and how many milliseconds ago that was
 abbrev pub next_before : ℕ → Option Seen → Option Since
 next_before at before = option_map (λ seen. record { count = seen.next; millis = at - seen.at }) before
 
--- what the check before saw of a port, if it existed
+-- what the check before saw of a port; `None` if there was no such check or port
 abbrev pub port_before : Option Seen → ℕ → Option PortSeen
 port_before None number = None
 port_before (Some seen) number = slice_get seen.ports.items number
 
--- how many milliseconds before it was
+-- how many milliseconds ago the check before was
 abbrev pub millis_since : ℕ → Option Seen → ℕ
 millis_since at None = 0
 millis_since at (Some seen) = at - seen.at
 
--- the counts of a port then
+-- what the check before counted of a port
 abbrev pub accepted_before : ℕ → Option PortSeen → Option Since
 accepted_before millis before = option_map (λ port. record { count = port.accepted; millis = millis }) before
 
@@ -85,7 +73,7 @@ abbrev pub journal_part : ℕ → ℕ → List ℕ
 journal_part entries room =
     codes " entries " ++ (decimal entries ++ (codes " of " ++ (decimal room ++ (codes " (" ++ (decimal (percent entries room) ++ codes " %)")))))
 
--- how many steps these entries made
+-- how many steps the journal's entries made
 abbrev pub steps_part : ℕ → List ℕ
 steps_part steps = codes " steps " ++ decimal steps
 
@@ -94,7 +82,7 @@ abbrev pub accepted_part : ℕ → ℕ → Option Since → ℕ → List ℕ
 accepted_part number now since pending =
     codes " port " ++ (decimal number ++ (codes " accepted " ++ (count_part now since ++ (codes " pending " ++ decimal pending))))
 
--- what it has put out, and how much of that isn't confirmed
+-- what a port has put out, and how much of that isn't confirmed
 abbrev pub out_part : ℕ → Option Since → ℕ → List ℕ
 out_part now since unconfirmed = codes " put_out " ++ (count_part now since ++ (codes " unconfirmed " ++ decimal unconfirmed))
 
@@ -127,8 +115,8 @@ halted_or_none (byte ∷ bytes) = byte ∷ bytes
 abbrev pub entries_room : Opened → ℕ
 entries_room o = entries_left 0 o.base (journal_of o.head.topology o.head.areas.length)
 
--- The line of a device that opened, whether a process held it or none did, at a time in milliseconds, after what a look before saw. `clock` is
--- the time of day, if the line has one.
+-- The line of a device that opened. `held` says whether a process held it, `at` is the time in milliseconds, and `before` is what the check before
+-- saw. `clock` is the time of day; with `None` the line has none.
 abbrev pub status_line : Bool → ℕ → Option ℕ → Option Seen → Opened → List ℕ
 status_line held at clock before o =
     time_part clock

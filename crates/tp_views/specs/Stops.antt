@@ -1,9 +1,6 @@
--- Where a trace stops, and what is printed there.
+-- Where a trace of an image stops, and what is printed there.
 use Rattle.std.specs.Prelude.{◌≡◌, ℕ, zero, suc, ◌+◌, ◌/◌, ◌==◌, Bool, false, true, not, ◌||◌, if◌then◌else◌, List, [], ◌∷◌, ◌++◌, length, bytes_eq, Option, Some, None, is_some, codes}
-use Rattle.tp_model.specs.Bytes.{u32_at}
-use Rattle.tp_model.specs.NodeState.{NodeState}
-use Rattle.tp_trace.specs.Hex.{hex_byte, hex_word}
-use Rattle.tp_trace.specs.Stops.{instruction_at, memory_of}
+use Rattle.tp_views.specs.Lower.{u32_at, NodeState, hex_byte, hex_word, instruction_at, memory_of, TraceLines, Every, Sending}
 use Rattle.tp_views.specs.Maps.{Row, spot_text}
 use Rattle.tp_views.specs.NodeText.{cpu_lines}
 use Rattle.tp_views.specs.declared.stops.Range.{Range}
@@ -30,9 +27,14 @@ watched (Some range) node = memory_of node range.from range.count
 abbrev pub is_changed : Stops → NodeState → NodeState → Bool
 is_changed stops was now = not (bytes_eq (watched stops.watch was) (watched stops.watch now))
 
--- a stop was asked for
-abbrev pub has_stops : Stops → Bool
-has_stops stops = is_some stops.until || is_some stops.watch
+-- not each line is printed
+abbrev pub is_sending : TraceLines → Bool
+is_sending Every = false
+is_sending Sending = true
+
+-- the state is printed in the end: a stop was asked for, or not each line is printed
+abbrev pub has_state : Stops → Bool
+has_state stops = is_some stops.until || (is_some stops.watch || is_sending stops.lines)
 
 -- ## What is printed
 
@@ -59,9 +61,9 @@ abbrev pub state_text : List Row → Stops → NodeState → List ℕ
 state_text rows stops node =
     cpu_lines rows node.cpu ++ (workspace_line node.cpu.wptr (memory_of node node.cpu.wptr 32) ++ memory_line stops.watch node)
 
--- that, if a stop was asked for
+-- that, if it is printed
 abbrev pub state_if : List Row → Stops → NodeState → List ℕ
-state_if rows stops node = if has_stops stops then state_text rows stops node else []
+state_if rows stops node = if has_state stops then state_text rows stops node else []
 
 -- before the instruction at an address
 abbrev pub until_text : List Row → Stops → NodeState → List ℕ
@@ -74,4 +76,4 @@ watch_text rows stops node = codes "stop watch" ++ (10 ∷ [] ++ state_text rows
 
 -- after as many steps as were asked for
 abbrev pub steps_line : Stops → List ℕ
-steps_line stops = if has_stops stops then codes "stop steps" ++ 10 ∷ [] else []
+steps_line stops = if has_state stops then codes "stop steps" ++ 10 ∷ [] else []

@@ -1,8 +1,6 @@
--- What those add up to that wait: what nobody in the network can end, once more.
+-- What all the waiting adds up to: the waits that nobody in the network can end, said once more.
 use Rattle.std.specs.Prelude.{ℕ, ◌+◌, if◌then◌else◌, List, [], ◌∷◌, ◌++◌, length, Option, Some, None, codes}
-use Rattle.std.specs.Fmt.{decimal}
-use Rattle.tp_model.specs.declared.wire.WireEnd.{WireEnd}
-use Rattle.tp_model.specs.declared.wire.WireEnd.TheVariants.{Link, Port as AtPort}
+use Rattle.tp_views.specs.Lower.{decimal, WireEnd, Link, AtPort}
 use Rattle.tp_views.specs.Scene.{Seen}
 use Rattle.tp_views.specs.Waiting.{is_told, links_of}
 use Rattle.tp_views.specs.declared.scene.NodeSeen.{NodeSeen}
@@ -11,7 +9,7 @@ use Rattle.tp_views.specs.declared.waiting.Wait.{Wait}
 use Rattle.tp_views.specs.declared.why.Reason.{Reason}
 use Rattle.tp_views.specs.declared.why.Reason.TheVariants.{UnderWay, Halted, Runs, BothSend, BothInput, Elsewhere, Full, NoInput, NoWire}
 
--- why a process still waits
+-- the words for why a process still waits
 abbrev pub why_name : Reason → List ℕ
 why_name UnderWay = codes "under way"
 why_name Halted = codes "halted"

@@ -1,4 +1,4 @@
--- The time of a look, by the seconds since 1970, if they are known.
+-- The time of a check, by the seconds since 1970, if they are known.
 use Rattle.std.specs.Prelude.{ℕ, ◌/◌, ◌%◌, List, [], ◌++◌, Option, Some, None, codes}
 use Rattle.std.specs.Fmt.{decimal}
 
@@ -14,7 +14,7 @@ abbrev pub time_part : Option ℕ → List ℕ
 time_part None = []
 time_part (Some clock) = day_part (clock % 86_400 / 3_600) (clock % 3_600 / 60) (clock % 60)
 
--- the time for scripts, with what ends the object
+-- the time for scripts, and what ends the object
 abbrev pub time_field : Option ℕ → List ℕ
 time_field None = codes "}\n"
 time_field (Some clock) = codes ",\"time\":" ++ (decimal clock ++ codes "}\n")

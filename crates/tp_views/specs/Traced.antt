@@ -1,18 +1,6 @@
--- What `trace` of an image prints.
+-- What `trace` of an image prints, and `try` of its steps.
 use Rattle.std.specs.Prelude.{◌≡◌, ◌⊎◌, ℕ, Bool, false, true, zero, suc, ◌+◌, List, [], ◌∷◌, ◌++◌, if◌then◌else◌, Option, Some, None, IsSome, Result, Ok, Err, codes}
-use Rattle.std.specs.Fmt.{decimal}
-use Rattle.std.specs.Io.KnownBytes.{Appends}
-use Rattle.tp_model.specs.Image.{node_of}
-use Rattle.tp_model.specs.NodeState.{NodeState}
-use Rattle.tp_node.specs.NodeContents.{NodeContents}
-use Rattle.tp_node.specs.Standing.{standing}
-use Rattle.tp_trace.specs.Lines.{step_text, stop_line, take_line}
-use Rattle.tp_trace.specs.Others.{Attended, came}
-use Rattle.tp_trace.specs.Steps.{seen, stepped}
-use Rattle.tp_trace.specs.declared.hearing.Heard.{Heard}
-use Rattle.tp_trace.specs.declared.stepping.Seen.{Seen}
-use Rattle.tp_turn.specs.declared.image.TryFault.{TryFault}
-use Rattle.tp_turn.specs.declared.image.TryFault.TheVariants.{BadImage, Memory as NodeMemory}
+use Rattle.tp_views.specs.Lower.{decimal, Appends, node_of, NodeState, NodeContents, standing, step_text, stop_line, take_line, Attended, came, seen, stepped, Heard, Seen, TryFault, BadImage, NodeMemory, Token, Data, Ack, Marker, TraceLines, Every, Sending}
 use Rattle.tp_views.specs.Front.{AppendsFront}
 use Rattle.tp_views.specs.Maps.{Row, spot_text}
 use Rattle.tp_views.specs.Stops.{is_changed, is_until, state_if, steps_line, until_text, watch_text}
@@ -26,24 +14,45 @@ use Rattle.tp_views.specs.declared.stops.Stops.{Stops}
 abbrev pub step_line : List Row → ℕ → Seen → List ℕ
 step_line rows number one = step_text number one ++ (spot_text [] rows one.at ++ 10 ∷ [])
 
+-- a token is a byte
+abbrev pub is_byte : Token → Bool
+is_byte (Data byte) = true
+is_byte Ack = false
+is_byte Marker = false
+
 -- a token that comes in, with its number
 abbrev pub came_line : ℕ → Heard → List ℕ
 came_line number one = decimal number ++ (codes " " ++ take_line one)
 
--- what happens next, as a line, and what comes of it: a step, if the node has one, ..
-abbrev pub by_step : List Row → ℕ → Attended → Option NodeState → Option (List ℕ × Attended)
-by_step rows number a None = None
-by_step rows number a (Some next) = Some (step_line rows number (seen a.node next), record a { node = next })
+-- a byte leaves
+abbrev pub is_byte_out : Option (ℕ × Token) → Bool
+is_byte_out None = false
+is_byte_out (Some sent) = is_byte sent.1
+
+-- a line in which that leaves is printed
+abbrev pub is_printed : TraceLines → Option (ℕ × Token) → Bool
+is_printed Every sent = true
+is_printed Sending sent = is_byte_out sent
+
+-- the line, if it is
+abbrev pub printed : TraceLines → Option (ℕ × Token) → List ℕ → List ℕ
+printed lines sent line = if is_printed lines sent then line else []
+
+-- what happens next, as what is printed of its line, and what comes of it: a step, if the node has one, ..
+abbrev pub by_step : TraceLines → List Row → ℕ → Attended → Option NodeState → Option (List ℕ × Attended)
+by_step lines rows number a None = None
+by_step lines rows number a (Some next) =
+    Some (printed lines (seen a.node next).sent (step_line rows number (seen a.node next)), record a { node = next })
 
 -- .. unless a token comes in before
-abbrev pub by_coming : List Row → ℕ → Attended → Option (Heard × Attended) → Option (List ℕ × Attended)
-by_coming rows number a None = by_step rows number a (stepped a.node)
-by_coming rows number a (Some one) = Some (came_line number one.0, one.1)
+abbrev pub by_coming : TraceLines → List Row → ℕ → Attended → Option (Heard × Attended) → Option (List ℕ × Attended)
+by_coming lines rows number a None = by_step lines rows number a (stepped a.node)
+by_coming lines rows number a (Some one) = Some (printed lines one.0.sent (came_line number one.0), one.1)
 
-abbrev pub event : List Row → ℕ → Attended → Option (List ℕ × Attended)
-event rows number a = by_coming rows number a (came a)
+abbrev pub event : TraceLines → List Row → ℕ → Attended → Option (List ℕ × Attended)
+event lines rows number a = by_coming lines rows number a (came a)
 
--- nothing happens any more: why, and, if a stop was asked for, its state
+-- nothing happens any more: why, and, if it is shown, the state
 abbrev pub ended_text : List Row → Stops → NodeState → List ℕ
 ended_text rows stops node = stop_line (standing node) ++ state_if rows stops node
 
@@ -66,7 +75,7 @@ moment_by rows stops node (Some one) = moment_behind rows stops node one.0 one.1
 -- the moment before the line of a number
 abbrev pub moment : List Row → Stops → ℕ → Attended → Moment
 moment rows stops number a =
-    if is_until stops a.node then record { text = until_text rows stops a.node; next = None } else moment_by rows stops a.node (event rows number a)
+    if is_until stops a.node then record { text = until_text rows stops a.node; next = None } else moment_by rows stops a.node (event stops.lines rows number a)
 
 -- why no further line is printed after the last one that was asked for
 abbrev pub last_line : Stops → NodeState → Option (List ℕ × Attended) → List ℕ
@@ -76,7 +85,7 @@ last_line stops node (Some one) = steps_line stops
 -- what is printed after that line
 abbrev pub last_text : List Row → Stops → Attended → List ℕ
 last_text rows stops a =
-    if is_until stops a.node then until_text rows stops a.node else (last_line stops a.node (event rows 0 a) ++ state_if rows stops a.node)
+    if is_until stops a.node then until_text rows stops a.node else (last_line stops a.node (event stops.lines rows 0 a) ++ state_if rows stops a.node)
 
 -- what is printed after a moment, if the trace goes on
 abbrev pub behind : Option Attended → (Attended → List ℕ) → List ℕ

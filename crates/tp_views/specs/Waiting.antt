@@ -1,11 +1,6 @@
 -- The processes that wait at the links of a network's nodes, each with what it waits for.
 use Rattle.std.specs.Prelude.{ℕ, ◌+◌, ◌*◌, nat_lt, Bool, true, false, ◌||◌, if◌then◌else◌, List, [], ◌∷◌, Option, Some, None}
-use Rattle.std.specs.List.{list_any}
-use Rattle.std.specs.Option.{option_map}
-use Rattle.tp_model.specs.Network.{line_of, receiver}
-use Rattle.tp_model.specs.declared.wire.WireEnd.{WireEnd}
-use Rattle.tp_model.specs.declared.wire.WireEnd.TheVariants.{Link, Port as AtPort}
-use Rattle.tp_node.specs.declared.waiter.Waiter.{Waiter}
+use Rattle.tp_views.specs.Lower.{list_any, option_map, line_of, receiver, WireEnd, Link, AtPort, Waiter}
 use Rattle.tp_views.specs.Scene.{Seen}
 use Rattle.tp_views.specs.Why.{waiting_at, why}
 use Rattle.tp_views.specs.declared.scene.NodeSeen.{NodeSeen}

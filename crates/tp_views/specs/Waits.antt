@@ -1,15 +1,7 @@
 -- What `waits` prints: for each node what it does, and for each of its processes that waits at a link why; and what that adds up to.
 use Rattle.std.specs.Prelude.{ℕ, ◌+◌, ◌-◌, ◌==◌, Bool, if◌then◌else◌, List, [], ◌∷◌, ◌++◌, length, Option, Some, None, codes}
-use Rattle.std.specs.Fmt.{decimal}
-use Rattle.tp_model.specs.Entries.{process}
-use Rattle.tp_model.specs.Image.{halt_byte}
-use Rattle.tp_model.specs.declared.entry.Entry.{Entry}
-use Rattle.tp_model.specs.declared.processor.Fault.{Fault}
-use Rattle.tp_model.specs.declared.wire.WireEnd.{WireEnd}
-use Rattle.tp_node.specs.declared.waiter.Deed.{Deed}
-use Rattle.tp_node.specs.declared.waiter.Deed.TheVariants.{Sends, Inputs, Chooses}
-use Rattle.tp_trace.specs.Hex.{hex_word}
-use Rattle.tp_trace.specs.Names.{fault_name}
+use Rattle.tp_views.specs.Lower.{decimal, process, halt_byte, Entry, Fault, WireEnd, Deed, Sends, Chooses, hex_word, fault_name}
+use Rattle.tp_node.specs.declared.waiter.Deed.TheVariants.{Inputs}
 use Rattle.tp_views.specs.Cycles.{cycles_text}
 use Rattle.tp_views.specs.Maps.{Maps, Row, rows_of, spot_text}
 use Rattle.tp_views.specs.Scene.{Seen}

@@ -1,11 +1,6 @@
 -- Why a process still waits at a link: what the other end does.
 use Rattle.std.specs.Prelude.{ℕ, ◌+◌, ◌*◌, Bool, true, false, not, ◌&&◌, ◌||◌, if◌then◌else◌, List, Option, Some, None, is_none, get_or, slice_get}
-use Rattle.tp_model.specs.Network.{receiver}
-use Rattle.tp_model.specs.declared.link.Token.{Token}
-use Rattle.tp_model.specs.declared.link.Token.TheVariants.{Data, Ack, Marker}
-use Rattle.tp_model.specs.declared.wire.WireEnd.{WireEnd}
-use Rattle.tp_model.specs.declared.wire.WireEnd.TheVariants.{Link, Port as AtPort}
-use Rattle.tp_node.specs.declared.waiter.Waiter.{Waiter}
+use Rattle.tp_views.specs.Lower.{receiver, Token, Data, Ack, Marker, WireEnd, Link, AtPort, Waiter}
 use Rattle.tp_views.specs.Scene.{Seen, is_halted, is_resting}
 use Rattle.tp_views.specs.declared.scene.NodeSeen.{NodeSeen}
 use Rattle.tp_views.specs.declared.scene.PortHeld.{PortHeld}
@@ -18,7 +13,7 @@ use Rattle.tp_views.specs.declared.why.Reason.TheVariants.{UnderWay, Halted, Run
 abbrev pub waiter_at : List (Option Waiter) → ℕ → Option Waiter
 waiter_at ends link = get_or ends link None
 
--- The process that waits at an end of a node's link. In a node that has halted none does: none of its processes will ever run.
+-- The process that waits at an end of a node's link. In a node that has halted none waits, since none will ever run.
 abbrev pub waiting_at : NodeSeen → Bool → ℕ → Option Waiter
 waiting_at own sends link =
     if is_halted own.doing then None else if sends then waiter_at own.senders link else waiter_at own.listeners link
@@ -36,7 +31,7 @@ is_data (Some Ack) = false
 is_data (Some Marker) = false
 is_data None = false
 
--- a port has no room for another byte of output; and it has input that no node has taken
+-- whether a port has no room for another byte of output
 abbrev pub is_full_port : Option PortHeld → Bool
 is_full_port None = false
 is_full_port (Some held) = held.is_full
@@ -53,8 +48,8 @@ has_input s port = has_port_input (slice_get s.ports port)
 
 -- ## Why
 
--- Both nodes rest and nothing is on the wire between them. At the other end a process does what this one does, or none does
--- anything there.
+-- Why a process waits if both nodes rest and nothing is on the wire between them. At the other end a process does what this one does, or none does
+-- anything.
 abbrev pub one_of : Reason → Option Waiter → Reason
 one_of both None = Elsewhere
 one_of both (Some waiter) = both
@@ -63,7 +58,7 @@ abbrev pub stuck_why : Bool → NodeSeen → ℕ → Reason
 stuck_why sends other link =
     if sends then one_of BothSend (waiter_at other.senders link) else one_of BothInput (waiter_at other.listeners link)
 
--- nothing is on the wire between two nodes
+-- why a process of a node waits for another node, if nothing is on the wire between them
 abbrev pub other_why : Bool → NodeSeen → NodeSeen → ℕ → Reason
 other_why sends own other link =
     if is_halted other.doing then Halted
@@ -74,12 +69,13 @@ abbrev pub node_why : Bool → NodeSeen → Option NodeSeen → ℕ → Reason
 node_why sends own None link = NoWire
 node_why sends own (Some other) link = other_why sends own other link
 
--- The other end is link k of node j, and `line` is the one that this end sends. A wire has two lines: this one, and the other end's.
+-- Why a process waits if the other end is link k of node j. `line` is the line that this end sends; a wire has two lines, this one and the other
+-- end's.
 abbrev pub link_why : Seen → Bool → NodeSeen → ℕ → ℕ → ℕ → Reason
 link_why s sends own line j k =
     if not (is_still s line) || not (is_still s (4 * j + k)) then UnderWay else node_why sends own (slice_get s.nodes j) k
 
--- The other end is a port. A full one takes no byte off its line. One without input sends none.
+-- Why a process waits if the other end is a port. A full port takes no byte off its line. A port without input sends none.
 abbrev pub port_why : Seen → Bool → ℕ → ℕ → Reason
 port_why s sends line port =
     if sends && (is_data (front_at s line) && is_full s port) then Full

@@ -1,18 +1,16 @@
 //! How large the areas of a new device are.
 
 ghost use Rattle.std.specs.Prelude.{◌≡◌, ◌≤◌, IfSome, true};
-ghost use Rattle.tp_model.specs.Journal.{is_roomy};
+ghost use Rattle.tp_views.specs.Lower.{is_roomy, MAX_AREA};
 ghost use Rattle.tp_views.specs.Checked.{default_area, wanted_area};
-ghost use Rattle.tp_words.specs.declared.args.TheConstants.{MAX_AREA};
 
 use tp_area::area_for;
 use tp_net::Topology;
 
-/// For how many entries between two checkpoints an area has room that nobody asked for.
+/// For how many entries between two checkpoints an area has room by default.
 const DEFAULT_ENTRIES: u64 = 65_536;
 
-/// How many bytes an area has that nobody asked for: the least with room for 65,536 entries between two checkpoints. It is never too small,
-/// nor too large.
+/// How many bytes an area has by default: the least with room for 65,536 entries between two checkpoints. That is never too small, nor too large.
 pub(crate) fn default_area(topology: &Topology) -> u64
     ensures value { result ≡ default_area topology.now }
     ensures bound { result ≤ MAX_AREA }
@@ -21,7 +19,7 @@ pub(crate) fn default_area(topology: &Topology) -> u64
     area_for(topology, DEFAULT_ENTRIES)
 }
 
-/// How many bytes an area has: as many as were asked for, or the default.
+/// How many bytes an area has: `asked`, or the default if that is `None`.
 pub fn wanted_area(topology: &Topology, asked: Option<u64>) -> u64
     ensures value { result ≡ wanted_area topology.now asked }
     ensures bound { IfSome asked (λ area. area ≤ MAX_AREA) → result ≤ MAX_AREA }

@@ -1,11 +1,7 @@
-//! Opening a device by several threads, which another process may be running.
+//! Opening a device with several threads, while another process may be running it.
 
 ghost use Rattle.std.specs.Prelude.{◌≡◌, ◌≤◌, ◌<◌, ◌^◌, IfOk};
-ghost use Rattle.tp_model.specs.Device.{areas_end};
-ghost use Rattle.tp_model.specs.Disk.{Sync, done};
-ghost use Rattle.tp_model.specs.DiskHistory.{Counts};
-ghost use Rattle.tp_model.specs.Opening.{verdict};
-ghost use Rattle.tp_recover.specs.Reading.{has_read, ReadAnswer, LeavesAlone, LeavesNothingNew};
+ghost use Rattle.tp_views.specs.Lower.{areas_end, Sync, done, Counts, verdict, has_read, ReadAnswer, LeavesAlone, LeavesNothingNew};
 ghost use Rattle.tp_views.specs.Steady.{OfSteady};
 
 use crate::steady::{MAX_TRIES, Tried, is_still, look};
@@ -16,8 +12,8 @@ use tp_gate::NoGate;
 use tp_recover::{Opened, Unopened, open, open_parallel};
 use tp_words::MAX_WORKERS;
 
-/// Opens a device by `workers` threads, 2 to 16 of them. If there is one, or another number that no command line asks for, this thread
-/// opens it alone. What it answers is what `tp_recover::open` answers.
+/// Opens a device with `workers` threads, 2 to 16. With 1, or a number that no command line asks for, this thread opens it alone. Its answer is that
+/// of `tp_recover::open`.
 pub fn open_by<D: Disk, R: Threads + Sync>(
     rt: &R,
     alloc: Global,
@@ -38,7 +34,7 @@ pub fn open_by<D: Disk, R: Threads + Sync>(
     }
 }
 
-/// Opens a device by `workers` threads, as `open_once` does by one.
+/// Opens a device with `workers` threads, as `open_once` does with one.
 fn open_once_by<D: Disk, R: Threads + Sync>(
     rt: &R,
     alloc: Global,
@@ -64,7 +60,7 @@ fn open_once_by<D: Disk, R: Threads + Sync>(
     }
 }
 
-/// Opens a device by `workers` threads, as `open_steady` does by one: it says no less of the answer.
+/// Opens a device with `workers` threads, as `open_steady` does with one, and promises as much about the answer.
 pub fn open_steady_by<D: Disk, R: Threads + Sync>(
     rt: &R,
     alloc: Global,

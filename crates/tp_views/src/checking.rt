@@ -1,9 +1,7 @@
 //! `tpnet check`: a topology and its images, and how large an area has to be.
 
 ghost use Rattle.std.specs.Prelude.{◌≡◌, ◌⊎◌, ◌≤◌, ◌++◌, IfOk, IsErr, IsSome, None, OnOk, map, string_bytes, true};
-ghost use Rattle.std.specs.Io.KnownBytes.{Appends};
-ghost use Rattle.tp_model.specs.Format.{start_of};
-ghost use Rattle.tp_model.specs.Topology.{is_topology};
+ghost use Rattle.tp_views.specs.Lower.{Appends, start_of, is_topology};
 ghost use Rattle.tp_views.specs.Checked.{area_for, area_line, area_lines, checked_text, default_area, default_line, least_line, shape_line};
 ghost use Rattle.tp_views.specs.Front.{AppendsFront};
 ghost use Rattle.tp_views.specs.JsonChecked.{topology_said};
@@ -22,7 +20,7 @@ use tp_disk::MemDisk;
 use tp_model::Form;
 use tp_net::Topology;
 
-/// Whether a device may be formatted with the images: it is tried on one that has no bytes.
+/// Tests whether a device may be formatted with the images, on a device that keeps no bytes. Fails with the reason if it may not.
 fn check_images(alloc: Global, topology: &Topology, images: &[Vec<u8>]) -> Result<(), Refusal>
     requires { is_topology topology.now ≡ true }
     ensures { OnOk result (IsSome (start_of topology.now (map (λ image. image.items) images.now))) }
@@ -35,7 +33,7 @@ fn check_images(alloc: Global, topology: &Topology, images: &[Vec<u8>]) -> Resul
     }
 }
 
-/// How many entries the journals have room for, whose areas are told.
+/// How many entries the journals have room for that are told an area for.
 pub(crate) const JOURNALS: [u32; 3] = [4_096, 65_536, 1_048_576];
 
 /// Appends how many nodes and ports there are, which version of the head would be written, and the form of the areas.
@@ -58,7 +56,7 @@ fn push_shape(text: &mut String, nodes: usize, ports: usize, version: u8) -> Res
     )
 }
 
-/// Appends how large an area has to be at least.
+/// Appends how large an area must be at least.
 fn push_least(text: &mut String, topology: &Topology) -> Result<(), AllocError>
     requires { is_topology topology.now ≡ true }
     ensures { OnOk result (string_bytes text.new ≡ string_bytes text.old ++ least_line (area_for topology.now 1)) }
@@ -67,7 +65,7 @@ fn push_least(text: &mut String, topology: &Topology) -> Result<(), AllocError>
     push_parts(text, &[Text("least area "), Number(least), Text("\n")])
 }
 
-/// Appends how large an area is if none is asked for.
+/// Appends how large an area is by default.
 fn push_default(text: &mut String, topology: &Topology) -> Result<(), AllocError>
     ensures { OnOk result (string_bytes text.new ≡ string_bytes text.old ++ default_line (default_area topology.now)) }
 {
@@ -75,7 +73,7 @@ fn push_default(text: &mut String, topology: &Topology) -> Result<(), AllocError
     push_parts(text, &[Text("default area "), Number(area), Text("\n")])
 }
 
-/// Appends how large an area has to be whose journal has room for `entries`.
+/// Appends how large an area must be so that its journal has room for `entries` entries.
 fn push_area(text: &mut String, topology: &Topology, entries: u32) -> Result<(), AllocError>
     requires { is_topology topology.now ≡ true }
     ensures { OnOk result (string_bytes text.new ≡ string_bytes text.old ++ area_line entries (area_for topology.now entries)) }
@@ -118,7 +116,7 @@ fn checked_text(alloc: Global, topology: &Topology) -> Result<String, AllocError
     Ok(text)
 }
 
-/// What is said of a topology, as JSON or not.
+/// Gives what is said of a topology, as JSON or not.
 fn topology_said(alloc: Global, topology: &Topology, json: bool) -> Result<String, AllocError>
     requires { is_topology topology.now ≡ true }
     ensures { IfOk result (λ text. string_bytes text ≡ topology_said json topology.now) }
@@ -167,7 +165,7 @@ fn check<O: Write>(
 }
 
 /// `tpnet check`, on a topology and its images. Answers the program's status: 0 if a device may be formatted with them and exactly what is said of
-/// the topology was printed, as JSON or not, else 1. If the images don't fit, nothing is printed.
+/// the topology was printed, as JSON or not; else 1. If the images don't fit, nothing is printed.
 pub fn check_on<O: Write, E: Write>(
     alloc: Global,
     topology: &Topology,

@@ -1,8 +1,7 @@
 //! `tpnet try`, and how each command prints and refuses.
 
 ghost use Rattle.std.specs.Prelude.{◌≡◌, ◌≤◌, None, OnOk, IfErr};
-ghost use Rattle.std.specs.Io.KnownBytes.{Appends};
-ghost use Rattle.tp_turn.specs.Tried.{fresh_image};
+ghost use Rattle.tp_views.specs.Lower.{Appends, fresh_image};
 ghost use Rattle.tp_views.specs.Attempt.{PrintsTrial, TryAnswer};
 ghost use Rattle.tp_views.specs.Front.{AppendsFront};
 
@@ -11,10 +10,10 @@ use std::alloc::Global;
 use std::io::{ErrorKind, Write};
 use tp_turn::try_output;
 
-/// The most steps of a run, if a node is tried.
+/// How many steps a turn has at most when a node is tried.
 pub const TRY_QUANTUM: u16 = 16;
 
-/// Says why a command was not done. A failed write of that is dropped.
+/// Says why a command wasn't done. Answers the status. Ignores a failed write.
 pub fn refuse<E: Write>(err: &mut E, refusal: Refusal) -> u8
     ensures { result ≡ 1 }
 {
@@ -22,7 +21,7 @@ pub fn refuse<E: Write>(err: &mut E, refusal: Refusal) -> u8
     1
 }
 
-/// Writes bytes as they are. Whatever it answers, the output has some of the first ones.
+/// Writes bytes as they are. Even if that fails, the output has only some of the first ones.
 pub fn put<O: Write>(out: &mut O, bytes: &[u8]) -> Result<(), Refusal>
     ensures written { OnOk result (Appends (O.contents out.old) (O.contents out.new) bytes.now) }
     ensures refused { IfErr result (λ refusal. refusal ≡ Refusal.DeviceFailed) }
@@ -54,8 +53,8 @@ pub fn print_help<O: Write, E: Write>(text: &str, out: &mut O, err: &mut E) -> u
     }
 }
 
-/// Runs the node of an image for `turns` turns, its own and the host's in turns, and shows what its port puts out. It takes no
-/// more memory for more turns.
+/// Runs the node of an image for `turns` turns, alternately its own and the host's, and writes what its port puts out. It needs no more memory for
+/// more turns.
 fn attempt<O: Write>(alloc: Global, image: &[u8], turns: u32, out: &mut O) -> Result<(), Refusal>
     ensures { TryAnswer image.now turns (O.contents out.old) (O.contents out.new) result }
 {
@@ -65,8 +64,8 @@ fn attempt<O: Write>(alloc: Global, image: &[u8], turns: u32, out: &mut O) -> Re
     }
 }
 
-/// `tpnet try`, on the bytes of the image. Answers the program's status: 0 if exactly what port 0 put out was written, else 1. It refuses bytes that
-/// are no image, and writes nothing then.
+/// `tpnet try`, on the bytes of the image. Answers the program's status: 0 if exactly what port 0 put out was written, else 1. If the bytes are no
+/// image, it refuses them and writes nothing.
 pub fn try_on<O: Write, E: Write>(
     alloc: Global,
     image: &[u8],

@@ -1,8 +1,8 @@
-//! Which nodes wait for one another.
+//! Which nodes wait for each other.
 
 ghost use Rattle.std.specs.Prelude.{◌≡◌, ◌++◌, ◌<◌, ◌≤◌, IfOk, OnOk, length, string_bytes};
-ghost use Rattle.tp_views.specs.Cycles.{bit_of, closed, cycle_part, cycles_from, cycles_text, edge, end_row, first_of, has, is_first, is_stuck, is_together, leads, link_row, member, members, passed, reached, row_of, rows_in};
 ghost use Rattle.tp_model.specs.declared.limits.TheConstants.{MAX_NODES};
+ghost use Rattle.tp_views.specs.Cycles.{bit_of, closed, cycle_part, cycles_from, cycles_text, edge, end_row, first_of, has, is_first, is_stuck, is_together, leads, link_row, member, members, passed, reached, row_of, rows_in};
 ghost use Rattle.tp_views.specs.Scene.{seen_in};
 
 use crate::json::push;
@@ -14,7 +14,7 @@ use std::alloc::{AllocError, Global};
 use tp_model::WireEnd;
 use tp_net::{link_line, receiver};
 
-/// The set that has this node alone; the empty one past 63.
+/// Gives the set with only this node; the empty set for a number above 63.
 fn bit_of(node: u8) -> u64
     ensures { result ≡ bit_of node }
 {
@@ -28,7 +28,7 @@ fn has(set: u64, node: usize) -> bool
     node < 64 && (set >> node) % 2 == 1
 }
 
-/// Whether both nodes rest, and nothing is on the wire between them.
+/// Whether this reason says that both nodes rest and nothing is on the wire between them.
 fn is_stuck(why: Reason) -> bool
     ensures { result ≡ is_stuck why }
 {
@@ -43,7 +43,7 @@ fn is_stuck(why: Reason) -> bool
     }
 }
 
-/// The node at an end, as a set.
+/// Gives the node at this end of a wire, as a set; empty if it is a port's end, or there is none.
 fn edge(other: Option<WireEnd>) -> u64
     ensures { result ≡ edge other }
 {
@@ -53,7 +53,7 @@ fn edge(other: Option<WireEnd>) -> u64
     }
 }
 
-/// The node that a process waits for at an end of a link, if one waits there, as a set.
+/// Gives the node for which a process waits at an end of a link, as a set; empty if none waits there.
 fn end_row(scene: &Scene, sends: bool, number: usize, own: &NodeSeen, link: u8) -> u64
     requires { number < MAX_NODES }
     ensures { result ≡ end_row (seen_in scene.now) sends number own.now link }
@@ -66,7 +66,7 @@ fn end_row(scene: &Scene, sends: bool, number: usize, own: &NodeSeen, link: u8) 
     }
 }
 
-/// The nodes that the processes at a link wait for.
+/// Gives the nodes for which the processes at a link wait.
 fn link_row(scene: &Scene, number: usize, own: &NodeSeen, link: u8) -> u64
     requires { number < MAX_NODES }
     ensures { result ≡ link_row (seen_in scene.now) number own.now link }
@@ -74,7 +74,7 @@ fn link_row(scene: &Scene, number: usize, own: &NodeSeen, link: u8) -> u64
     end_row(scene, true, number, own, link) | end_row(scene, false, number, own, link)
 }
 
-/// The nodes that the processes of a node wait for.
+/// Gives the nodes for which the processes of a node wait.
 fn row_of(scene: &Scene, number: usize, own: &NodeSeen) -> u64
     requires { number < MAX_NODES }
     ensures { result ≡ row_of (seen_in scene.now) number own.now }
@@ -85,7 +85,7 @@ fn row_of(scene: &Scene, number: usize, own: &NodeSeen) -> u64
         | link_row(scene, number, own, 3)
 }
 
-/// For each node those that it waits for, directly.
+/// Gives, for each node, the nodes for which it waits itself.
 fn rows_of(alloc: Global, scene: &Scene) -> Result<Vec<u64>, AllocError>
     requires { length scene.now.nodes.items ≤ MAX_NODES }
     ensures { IfOk result (λ rows. rows.items ≡ rows_in (seen_in scene.now) 0 scene.now.nodes.items) }
@@ -97,14 +97,14 @@ fn rows_of(alloc: Global, scene: &Scene) -> Result<Vec<u64>, AllocError>
     Ok(rows)
 }
 
-/// A row, with those that this node leads to if it has the node.
+/// Gives a row together with `through`, the nodes for which `node` waits, if the row has `node`.
 fn passed(node: usize, through: u64, row: u64) -> u64
     ensures { result ≡ passed node through row }
 {
     if has(row, node) { row | through } else { row }
 }
 
-/// The rows, each with those that a node leads to if it has the node.
+/// Does that for each row.
 fn leads(alloc: Global, node: usize, rows: &[u64]) -> Result<Vec<u64>, AllocError>
     ensures { IfOk result (λ next. next.items ≡ leads node rows.now) }
 {
@@ -119,7 +119,7 @@ fn leads(alloc: Global, node: usize, rows: &[u64]) -> Result<Vec<u64>, AllocErro
     Ok(next)
 }
 
-/// For each node those that it waits for, also through others.
+/// Gives, for each node, the nodes for which it waits, itself or through others.
 fn closed(alloc: Global, rows: Vec<u64>) -> Result<Vec<u64>, AllocError>
     ensures { IfOk result (λ now. now.items ≡ closed (length rows.items) rows.items) }
 {
@@ -131,14 +131,14 @@ fn closed(alloc: Global, rows: Vec<u64>) -> Result<Vec<u64>, AllocError>
     Ok(now)
 }
 
-/// Whether two nodes wait for one another, by their rows.
+/// Whether two nodes wait for each other, by their rows.
 fn is_together(mine: u64, number: usize, row: u64, other: usize) -> bool
     ensures { result ≡ is_together mine number row other }
 {
     has(mine, other) && has(row, number)
 }
 
-/// The first one of the nodes that wait for one another with a node.
+/// Finds the first of the nodes that wait for each other together with a node; `None` if there is none.
 pub(crate) fn first_of(mine: u64, number: usize, rows: &[u64]) -> Option<usize>
     ensures { result ≡ first_of mine number 0 rows.now }
 {
@@ -150,7 +150,7 @@ pub(crate) fn first_of(mine: u64, number: usize, rows: &[u64]) -> Option<usize>
     None
 }
 
-/// Whether a node is the first one of those that wait for one another with it.
+/// Whether a node is the first of those that wait for each other together with it.
 fn is_first(mine: u64, number: usize, rows: &[u64]) -> bool
     ensures { result ≡ is_first mine number rows.now }
 {
@@ -160,7 +160,7 @@ fn is_first(mine: u64, number: usize, rows: &[u64]) -> bool
     }
 }
 
-/// Appends a node if it and another one wait for one another.
+/// Appends a node if it and the given one wait for each other.
 fn push_member(
     text: &mut String,
     mine: u64,
@@ -177,7 +177,7 @@ fn push_member(
     }
 }
 
-/// Appends the nodes that wait for one another with a node.
+/// Appends the nodes that wait for each other together with a node.
 fn push_members(text: &mut String, mine: u64, number: usize, rows: &[u64]) -> Result<(), AllocError>
     ensures { OnOk result (string_bytes text.new ≡ string_bytes text.old ++ members mine number 0 rows.now) }
 {
@@ -187,7 +187,7 @@ fn push_members(text: &mut String, mine: u64, number: usize, rows: &[u64]) -> Re
     Ok(())
 }
 
-/// Appends the line of the nodes that wait for one another with a node, if it is the first of them.
+/// Appends the line of the nodes that wait for each other together with a node, if it is the first of them.
 fn push_cycle(text: &mut String, mine: u64, number: usize, rows: &[u64]) -> Result<(), AllocError>
     ensures { OnOk result (string_bytes text.new ≡ string_bytes text.old ++ cycle_part mine number rows.now) }
 {
@@ -208,7 +208,7 @@ fn push_each(text: &mut String, rows: &[u64]) -> Result<(), AllocError>
     Ok(())
 }
 
-/// For each node those that it waits for, directly or through others.
+/// Gives, for each node, the nodes for which it waits, itself or through others.
 pub(crate) fn reached(alloc: Global, scene: &Scene) -> Result<Vec<u64>, AllocError>
     requires { length scene.now.nodes.items ≤ MAX_NODES }
     ensures { IfOk result (λ rows. rows.items ≡ reached (seen_in scene.now)) }
@@ -217,7 +217,7 @@ pub(crate) fn reached(alloc: Global, scene: &Scene) -> Result<Vec<u64>, AllocErr
     closed(alloc, rows)
 }
 
-/// Appends a line for each set of nodes that wait for one another.
+/// Appends a line for each set of nodes that wait for each other.
 pub(crate) fn push_cycles(alloc: Global, text: &mut String, scene: &Scene) -> Result<(), AllocError>
     requires { length scene.now.nodes.items ≤ MAX_NODES }
     ensures { OnOk result (string_bytes text.new ≡ string_bytes text.old ++ cycles_text (seen_in scene.now)) }

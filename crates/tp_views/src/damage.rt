@@ -17,35 +17,35 @@ use tp_model::limits::{
 };
 use tp_model::{HeadVersion, OpenFault, TwoAreas};
 
-/// What is said of a front whose form is known.
+/// Said of an area's front whose form is known.
 const BAD_FRONT: &str =
     "  both areas are open with one generation, or a field breaks its rule: docs/FORMATS.md, section 5\n";
 
-/// What is said of the record of a line.
+/// Said of the record of a line.
 const BAD_LINE: &str =
     "  its tokens don't agree with the wire's ends: docs/FORMATS.md, section 6, tests 8 and 9\n";
 
-/// What is said of the record of a port.
+/// Said of the record of a port.
 const BAD_PORT: &str = "  its counts or positions break their rule: docs/FORMATS.md, section 5\n";
 
-/// What is said of the journal.
+/// Said of the journal.
 const BAD_JOURNAL: &str =
     "  its header, its number or what it says isn't possible there: docs/FORMATS.md, section 6, tests 10 and 11\n";
 
-/// What is said if the head is another one now.
+/// Said if the head isn't the one that was opened any more.
 const CHANGED: &str = "  its head was changed since it was opened: try again\n";
 
-/// What is said of a file that doesn't begin as a device does.
+/// Said of a file that doesn't begin as a device does.
 const NO_DEVICE: &str =
     "  it doesn't begin with TPNET and two bytes 00\n  It is no device, or its format was stopped: make one with tpnet format.\n";
 
-/// Whether the bytes of a device from a place on are there and can be read. They are put into `bytes` then.
+/// Reads the bytes of a device from offset `at` on into `bytes`. Answers whether they are there and could be read.
 fn is_read<D: Disk>(disk: &mut D, at: u64, bytes: &mut [u8]) -> bool {
     let (size, count) = (disk.size(), bytes.len() as u64);
     count <= size && at <= size - count && disk.read(at, bytes).is_ok()
 }
 
-/// The bytes of a device at a place, if it has them and they can be read.
+/// Gives the bytes of a device at offset `at`; `None` if it has none there, or they can't be read.
 fn bytes_at<D: Disk, const N: usize>(disk: &mut D, at: u64) -> Option<[u8; N]> {
     let mut bytes = [0; N];
     if is_read(disk, at, &mut bytes) {
@@ -55,7 +55,7 @@ fn bytes_at<D: Disk, const N: usize>(disk: &mut D, at: u64) -> Option<[u8; N]> {
     }
 }
 
-/// The gate of an area, in words.
+/// Says whether the gate of an area is open, in words.
 fn push_gate<D: Disk>(text: &mut String, disk: &mut D, at: u64) -> Result<(), AllocError> {
     match bytes_at::<D, 1>(disk, at) {
         Some(bytes) => {
@@ -124,7 +124,7 @@ fn push_areas(text: &mut String, size: u64, areas: TwoAreas) -> Result<(), Alloc
     }
 }
 
-/// Says what is wrong with the head of a device of `size` bytes, whose layout this is by it.
+/// Says what is wrong with the head of a device of `size` bytes, which gives it this layout.
 fn push_head(text: &mut String, size: u64, layout: &Layout, head: &[u8]) -> Result<(), AllocError> {
     if push_broken(text, layout.version, head)? {
         text.push_str(": docs/FORMATS.md, section 4\n")
@@ -133,7 +133,7 @@ fn push_head(text: &mut String, size: u64, layout: &Layout, head: &[u8]) -> Resu
     }
 }
 
-/// The form of the area that begins at `start`, if it can be read, and the place of it.
+/// Gives the form of the area that begins at `start`, if it can be read, and the offset of the form.
 fn form_at<D: Disk>(disk: &mut D, start: u64) -> (u64, Option<u64>) {
     let at = start.saturating_add(FIELDS_BYTES as u64 - 1);
     match bytes_at::<D, 2>(disk, at) {
@@ -164,7 +164,7 @@ fn push_front<D: Disk>(text: &mut String, disk: &mut D, start: u64) -> Result<()
     }
 }
 
-/// Says what is at a place of a device, in the record that begins at `start`.
+/// Says what is at an offset of a device, in the record that begins at `start`.
 fn push_place(
     text: &mut String,
     layout: &Layout,
@@ -178,7 +178,7 @@ fn push_place(
     write!(text, ", from {start} on\n")
 }
 
-/// Says what is wrong at a place of a device.
+/// Says what is wrong at an offset of a device.
 fn push_damage<D: Disk>(
     alloc: Global,
     text: &mut String,
@@ -206,7 +206,7 @@ fn push_gates<D: Disk>(text: &mut String, disk: &mut D, layout: &Layout) -> Resu
     text.push_str("  Restore a copy, or make the device anew.\n")
 }
 
-/// Says why a device with a head of a version doesn't open.
+/// Says why a device with a head of this version doesn't open.
 fn push_behind<D: Disk>(
     alloc: Global,
     text: &mut String,
@@ -260,7 +260,7 @@ fn push_wide<D: Disk>(
     }
 }
 
-/// Says that a device has a version that isn't read.
+/// Says that a device has a version that the program doesn't read.
 fn push_version(text: &mut String, version: u8) -> Result<(), AllocError> {
     push_parts(
         text,

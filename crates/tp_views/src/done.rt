@@ -1,4 +1,4 @@
-//! What nodes have done since the checkpoint, by the entries of the journal after it.
+//! What nodes have done since the checkpoint, by the journal's entries after it.
 
 ghost use Rattle.std.specs.Prelude.{◌≡◌, filter, length};
 ghost use Rattle.tp_views.specs.Done.{amount, amount_of, is_counted, steps_made, total};
@@ -10,7 +10,7 @@ use tp_model::{Entry, Token, WireEnd};
 use tp_recover::Opened;
 use tp_replay::FlatNetwork;
 
-/// What is counted of an entry.
+/// What to count of an entry.
 #[derive(Clone, Copy)]
 pub(crate) enum Count {
     /// The entry itself.
@@ -19,11 +19,11 @@ pub(crate) enum Count {
     Steps,
     /// The bytes that came in on a link.
     BytesIn(u8),
-    /// The bytes that went out on a link, by the acknowledges that came in there.
+    /// The bytes that went out on a link: those whose acknowledge came in there.
     BytesOut(u8),
 }
 
-/// Whether a token that came in counts: it is a byte, or else an acknowledge, and it came on this link.
+/// Whether a token counts: it came in on this link, and it is a byte or, if `is_byte` is false, an acknowledge.
 fn is_counted(is_byte: bool, link: u8, one: &(u8, Token)) -> bool
     ensures { result ≡ is_counted is_byte link one.now }
 {
@@ -35,7 +35,7 @@ fn is_counted(is_byte: bool, link: u8, one: &(u8, Token)) -> bool
     counts && one.0 == link
 }
 
-/// How many of some tokens count.
+/// How many of these tokens count.
 fn count_tokens(is_byte: bool, link: u8, tokens: &[(u8, Token)]) -> usize
     ensures { result ≡ length (filter (is_counted is_byte link) tokens.now) }
 {
@@ -48,7 +48,7 @@ fn count_tokens(is_byte: bool, link: u8, tokens: &[(u8, Token)]) -> usize
     count
 }
 
-/// How much of what is counted an entry has.
+/// How much an entry has of what is counted.
 fn amount(what: Count, wires: &[Option<WireEnd>], entry: &Entry) -> u64
     ensures { result ≡ amount what wires.now entry.now }
 {
@@ -64,7 +64,7 @@ fn amount(what: Count, wires: &[Option<WireEnd>], entry: &Entry) -> u64
     }
 }
 
-/// How much of it an entry has for a node, or for all processes.
+/// How much an entry has of that, for a node or for all processes.
 fn amount_of(
     what: Count,
     node: Option<u64>,
@@ -81,7 +81,7 @@ fn amount_of(
     }
 }
 
-/// How much of it the entries of a node have, or all entries.
+/// How much the entries of a node have of that, or all entries.
 pub(crate) fn total(
     what: Count,
     node: Option<u64>,

@@ -1,4 +1,4 @@
-//! What `--explain` says of a refusal: which file, why, and the way out. It looks again at what the command looked at.
+//! What `--explain` says of a refusal: which file, why, and the way out. It checks again what the command checked.
 
 use crate::explaining_trace::push_trace;
 use crate::full_journal::push_journal;
@@ -15,20 +15,20 @@ use std::io::Write;
 use std::os::unix::fs::FileExt;
 use tp_words::{Asked, NewDevice, Run, Shown};
 
-/// What is said of a run whose device's calls failed.
+/// Said of a run if a call on its device failed.
 const MEND_RUN: &str =
     "  A run reads and writes it: mend that, and give the same command again. Nothing that was acknowledged or shown is lost.\n";
 
-/// What is said of a compacting whose device's calls failed.
+/// Said of compacting if a call on its device failed.
 const MEND_COMPACT: &str =
     "  It is read and written: mend that, and give the same command again. Nothing is lost.\n";
 
-/// Says what is left if nothing was said.
+/// Says what else may be the reason, if nothing was said.
 fn push_unless(text: &mut String, is_said: bool) -> Result<(), AllocError> {
     if is_said { Ok(()) } else { push_rest(text) }
 }
 
-/// Says that a file is there already, if it has to be new.
+/// Says that a file is there already, if it must be new.
 fn push_there<R: Files>(rt: &R, text: &mut String, device: &str) -> Result<(), AllocError> {
     let (what, way) = if is_regular(rt, device) {
         (
@@ -45,7 +45,7 @@ fn push_there<R: Files>(rt: &R, text: &mut String, device: &str) -> Result<(), A
     write!(text, "  {shown}: {what}\n  {way}\n")
 }
 
-/// Says what may be left of a device that was there.
+/// Says what may be left of a device that was there before.
 fn push_old(text: &mut String, device: &str) -> Result<(), AllocError> {
     let shown = Shown::all(device);
     write!(
@@ -54,7 +54,7 @@ fn push_old(text: &mut String, device: &str) -> Result<(), AllocError> {
     )
 }
 
-/// Says what the system said of a device that isn't made, and what may be left of one that was there.
+/// Says what the system said of a device that can't be made, and what may be left of one that was there before.
 fn push_unmade<R: Files>(
     rt: &R,
     text: &mut String,
@@ -69,7 +69,7 @@ fn push_unmade<R: Files>(
     }
 }
 
-/// Says which file of a new device, or which number, is wrong: what can't be a device, and then what is wrong with the network.
+/// Says which file or number of a new device is wrong: first whether it can't be a device, then what is wrong with the network.
 fn push_new<R: Files + AllocGlobal>(
     rt: &R,
     text: &mut String,
@@ -116,7 +116,7 @@ fn push_try<R: Files + AllocGlobal>(
     push_unless(text, is_said)
 }
 
-/// Says why no area is told.
+/// Says why no area sizes are told.
 fn push_check<R: Files + AllocGlobal>(
     rt: &R,
     text: &mut String,
@@ -127,8 +127,7 @@ fn push_check<R: Files + AllocGlobal>(
     push_unless(text, is_said)
 }
 
-/// How many bytes the input of a run has; `None` if its file can't be read again, and that is said. What isn't a regular file isn't
-/// read again.
+/// Gives how many bytes the input of a run has; `None` if its file can't be read again, which it then says. It reads only a regular file again.
 fn input_length<R: Files + AllocGlobal>(
     rt: &R,
     text: &mut String,
@@ -143,7 +142,7 @@ fn input_length<R: Files + AllocGlobal>(
     }
 }
 
-/// Whether the input of a run is something else than a regular file or a folder.
+/// Whether the input of a run is something other than a regular file or a folder.
 fn is_input_special<R: Files>(rt: &R, run: &Run) -> bool {
     match &run.input {
         Some(path) => is_special(rt, path.as_str()),
@@ -151,7 +150,7 @@ fn is_input_special<R: Files>(rt: &R, run: &Run) -> bool {
     }
 }
 
-/// Says why a run was refused though no call on its device failed.
+/// Says why a run was refused, if no call on its device failed.
 fn push_refused_run<R: Files<File = F> + AllocGlobal, F: FileExt + OpenFile + Drop>(
     rt: &R,
     text: &mut String,
@@ -191,7 +190,7 @@ fn push_run<R: Files<File = F> + AllocGlobal, F: FileExt + OpenFile + Drop>(
     }
 }
 
-/// Opens a device's file again, and says why it wasn't opened, if it doesn't open now either. Answers whether it opens.
+/// Opens a device's file again, and says why if that fails. Answers whether it opens.
 fn opens<R: Files<File = F> + AllocGlobal, F: FileExt + OpenFile + Drop>(
     rt: &R,
     text: &mut String,

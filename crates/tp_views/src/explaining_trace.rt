@@ -9,7 +9,7 @@ use crate::placing::stops_at;
 use std::alloc::{AllocError, Global};
 use std::fmt::Write;
 use std::fs::Files;
-use tp_words::{ImageTrace, Shown};
+use tp_words::{ImageTrace, Shown, TraceLines};
 
 /// Says why the image of a node that is traced isn't read, or which rule it breaks: whether anything was said. Its links may be at work.
 fn push_image<R: Files + AllocGlobal>(
@@ -49,7 +49,7 @@ fn push_place(
     let Some(place) = place else {
         return Ok(false);
     };
-    if stops_at(rows, Some(place.as_str()), None, 1).is_ok() {
+    if stops_at(TraceLines::Every, rows, Some(place.as_str()), None, 1).is_ok() {
         return Ok(false);
     }
     let shown = Shown::all(place.as_str());

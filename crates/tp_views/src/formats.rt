@@ -1,4 +1,4 @@
-//! Versions, forms and whether a node runs, as they are printed.
+//! The names that are printed of versions, forms and halts.
 
 ghost use Rattle.std.specs.Prelude.{◌≡◌};
 ghost use Rattle.tp_model.specs.Head.{version_byte};
@@ -8,7 +8,7 @@ use tp_model::limits::{NARROW_VERSION, WIDE_VERSION};
 use tp_model::{Fault, Form, HeadVersion};
 use tp_trace::fault_name;
 
-/// The number of a head's version.
+/// Gives the number of a head's version.
 pub(crate) fn version_number(version: HeadVersion) -> u8
     ensures { result ≡ version_byte version }
 {
@@ -18,7 +18,7 @@ pub(crate) fn version_number(version: HeadVersion) -> u8
     }
 }
 
-/// The name of an area's form.
+/// Gives the name of an area's form.
 pub(crate) fn form_name(form: Form) -> &'static str
     ensures { result.now ≡ form_name form }
 {
@@ -28,7 +28,7 @@ pub(crate) fn form_name(form: Form) -> &'static str
     }
 }
 
-/// Why a node halted, or that it runs.
+/// Gives the name for why a node halted, or that it runs.
 pub(crate) fn halt_name(halt: Option<Fault>) -> &'static str
     ensures { result.now ≡ halt_name halt }
 {

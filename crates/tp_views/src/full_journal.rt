@@ -1,4 +1,4 @@
-//! How full a device's journal is when a run was refused.
+//! How full a device's journal is, said when it has no room for a run.
 
 ghost use Rattle.std.specs.Prelude.{◌≡◌, ◌↔◌, ◌<◌, ◌≤◌, ◌+◌, true, false, None, IfSome};
 
@@ -10,12 +10,11 @@ use tp_model::limits::MAX_HELD;
 use tp_recover::Opened;
 use tp_words::{Run, Shown};
 
-/// What is said of each journal that is full.
+/// Said of each full journal.
 const FILLS_UP: &str =
     "  Nothing that was acknowledged or shown is lost. So that it doesn't fill up: a larger AREA (tpnet check says how large),\n  and output that is confirmed often; watch unconfirmed in tpnet show.\n";
 
-/// How many entries of a run's input are handed in at once: as many bytes as there are after those that its port has accepted, and as it has room
-/// for.
+/// How many entries of a run's input are handed in at once: a byte each, after those that its port has accepted, and no more than it has room for.
 fn offered(run: &Run, opened: &Opened, input: usize) -> u64 {
     match opened.network().ports().get(run.port as usize) {
         Some(port) => {
@@ -36,7 +35,7 @@ fn push_full(text: &mut String, device: &str, entries: u64, most: u64) -> Result
     )
 }
 
-/// Says that more input comes at once than an empty journal has room for.
+/// Says that more input comes at once than even an empty journal has room for.
 fn push_too_much(text: &mut String, wanted: u64) -> Result<(), AllocError> {
     write!(
         text,
@@ -53,7 +52,7 @@ fn push_compact(text: &mut String, device: &str) -> Result<(), AllocError> {
     )
 }
 
-/// Says that input can come by pieces.
+/// Says that input can be handed in in smaller pieces.
 fn push_pieces(text: &mut String, device: &str, port: u64) -> Result<(), AllocError> {
     let shown = Shown::all(device);
     write!(
@@ -62,7 +61,7 @@ fn push_pieces(text: &mut String, device: &str, port: u64) -> Result<(), AllocEr
     )
 }
 
-/// Says the ways out of a full journal with room for `most` entries; if it is known, `wanted` entries come at once.
+/// Says the ways out of a full journal with room for `most` entries. `wanted` entries come at once; `None` if that isn't known.
 fn push_ways(
     text: &mut String,
     run: &Run,
@@ -78,7 +77,8 @@ fn push_ways(
     push_pieces(text, device, run.port)
 }
 
-/// Whether a journal with `entries` entries, and room for `most`, has room for those that a run wants, if that is known, and for at least one.
+/// Whether a journal that has `entries` entries, and room for `most` in all, has room for `wanted` more, and for at least one. The answer is `false`
+/// if `wanted` is `None`, since the number isn't known then.
 fn has_room(entries: u64, most: u64, wanted: Option<u64>) -> bool
     ensures none { wanted ≡ None → result ≡ false }
     ensures some { IfSome wanted (λ more. result ≡ true ↔ ((entries < most) × (entries + more ≤ most))) }
@@ -89,8 +89,8 @@ fn has_room(entries: u64, most: u64, wanted: Option<u64>) -> bool
     }
 }
 
-/// Says how full a device's journal is, if a run's input or the confirmation of its output has no room. `input` is how many bytes
-/// the run's input has, if that is known.
+/// Says how full a device's journal is, if a run's input or the confirmation of its output finds no room. `input` is how many bytes the run's input
+/// has, if that is known.
 pub(crate) fn push_journal(
     text: &mut String,
     run: &Run,

@@ -1,4 +1,4 @@
-//! Which rule of a device's head bytes break.
+//! Which rule the bytes of a device's head break.
 
 use crate::parts::Part::{Byte, Number};
 use crate::rules::{NOTHING, Rule, push_words};
@@ -12,16 +12,16 @@ use tp_model::limits::{
 };
 use tp_trace::byte_in;
 
-/// What is said of the number of nodes.
+/// Said of a wrong number of nodes.
 const NODES: &[&str] = &["  byte ", ", the nodes, is ", " and must be 1 to "];
 
-/// What is said of the number of ports.
+/// Said of a wrong number of ports.
 const PORTS: &[&str] = &["  byte ", ", the ports, is ", " and must be 1 to "];
 
-/// What is said of a byte of no field.
+/// Said of a byte that belongs to no field, and isn't 00.
 const FILLED: &[&str] = &["  byte ", " is ", " and must be 00"];
 
-/// What is said of a node whose pages are too few or too many.
+/// Said of a node with too few or too many pages.
 const PAGES: &[&str] = &[
     "  the pages of node ",
     ", at ",
@@ -30,7 +30,7 @@ const PAGES: &[&str] = &[
     " to ",
 ];
 
-/// What is said of the pages of a node that doesn't exist.
+/// Said of pages of a node that doesn't exist.
 const NO_NODE: &[&str] = &[
     "  the pages of node ",
     ", at ",
@@ -39,16 +39,16 @@ const NO_NODE: &[&str] = &[
     " nodes",
 ];
 
-/// What is said of a link that leads to one that doesn't lead back.
+/// Said of a link to a link that doesn't lead back.
 const NOT_BACK: &[&str] = &["link ", " of node ", ", which doesn't lead back"];
 
-/// What is said of a link that leads to a port to which another one leads.
+/// Said of a link to a port to which another link leads.
 const EARLIER: &[&str] = &["port ", ", to which an earlier link leads"];
 
-/// What is said of a link that leads to nothing.
+/// Said of a link that leads to nothing.
 const NO_END: &[&str] = &["no link or port that is there"];
 
-/// The most nodes that a head of a version has fields for.
+/// How many nodes a head of this version has fields for.
 pub(crate) fn most_nodes(version: HeadVersion) -> usize {
     match version {
         HeadVersion::Narrow => NARROW_HEAD_NODES,
@@ -56,7 +56,7 @@ pub(crate) fn most_nodes(version: HeadVersion) -> usize {
     }
 }
 
-/// The most pages of a node that a head of a version says.
+/// How many pages a head of this version can say of a node.
 fn most_pages(version: HeadVersion) -> usize {
     match version {
         HeadVersion::Narrow => NARROW_HEAD_PAGES,
@@ -64,7 +64,7 @@ fn most_pages(version: HeadVersion) -> usize {
     }
 }
 
-/// The number that stands for port 0 in a head of a version.
+/// Gives the number that stands for port 0 in a head of this version.
 fn first_port(version: HeadVersion) -> usize {
     match version {
         HeadVersion::Narrow => NARROW_PORT,
@@ -72,7 +72,7 @@ fn first_port(version: HeadVersion) -> usize {
     }
 }
 
-/// Bytes of the field that says where a link leads.
+/// How many bytes the field has that says where a link leads.
 fn end_bytes(version: HeadVersion) -> usize {
     match version {
         HeadVersion::Narrow => 1,
@@ -80,12 +80,12 @@ fn end_bytes(version: HeadVersion) -> usize {
     }
 }
 
-/// The number of two bytes from a place on, the low one first.
+/// Reads the number of two bytes at offset `at`, the low one first.
 pub(crate) fn half_at(bytes: &[u8], at: usize) -> u16 {
     u16::from_le_bytes([byte_in(bytes, at), byte_in(bytes, at.saturating_add(1))])
 }
 
-/// The number of eight bytes from a place on, the lowest one first.
+/// Reads the number of eight bytes at offset `at`, the lowest one first.
 pub(crate) fn number_at(bytes: &[u8], at: usize) -> u64 {
     let mut field = [0u8; 8];
     for (place, byte) in field.iter_mut().enumerate() {
@@ -94,12 +94,12 @@ pub(crate) fn number_at(bytes: &[u8], at: usize) -> u64 {
     u64::from_le_bytes(field)
 }
 
-/// Where the pages of a node are.
+/// Gives the offset of the pages of a node.
 pub(crate) fn pages_at(node: usize) -> usize {
     PAGES_PLACE.saturating_add(node.saturating_mul(2))
 }
 
-/// The bytes of a head of a version, and how many nodes and ports they say.
+/// The bytes of a head, its version, and how many nodes and ports it says.
 #[derive(Clone, Copy)]
 struct Fields<'a> {
     version: HeadVersion,
@@ -109,12 +109,12 @@ struct Fields<'a> {
 }
 
 impl Fields<'_> {
-    /// Where the field is that says where a link leads.
+    /// Gives the offset of the field that says where a link leads.
     fn end_place(self, link: usize) -> usize {
         ends_place(self.version).saturating_add(link.saturating_mul(end_bytes(self.version)))
     }
 
-    /// If a link leads, as a number.
+    /// Gives where a link leads, as a number.
     fn end(self, link: usize) -> usize {
         let at = self.end_place(link);
         match self.version {
@@ -133,7 +133,7 @@ impl Fields<'_> {
         true
     }
 
-    /// What is said if there are too few or too many nodes or ports.
+    /// Gives what is wrong with the number of nodes or ports; `None` if nothing is.
     fn counts_rule(self) -> Option<Rule<5>> {
         let (nodes, ports, most) = (self.nodes, self.ports, most_nodes(self.version));
         if nodes < 1 || nodes > most {
@@ -163,7 +163,7 @@ impl Fields<'_> {
         None
     }
 
-    /// Which byte of a range isn't 00, if one isn't.
+    /// Gives which byte of a range isn't 00; `None` if all are.
     fn filled_rule(self, from: usize, to: usize) -> Option<Rule<5>> {
         for at in from..to {
             let byte = byte_in(self.head, at);
@@ -177,7 +177,7 @@ impl Fields<'_> {
         None
     }
 
-    /// What is said of the pages of a node, if their number is wrong.
+    /// Gives what is wrong with the number of pages of a node; `None` if nothing is.
     fn node_rule(self, node: usize) -> Option<Rule<5>> {
         let at = pages_at(node);
         let pages = usize::from(half_at(self.head, at));
@@ -213,7 +213,7 @@ impl Fields<'_> {
         })
     }
 
-    /// Which node has a wrong number of pages.
+    /// Gives which node has a wrong number of pages; `None` if none has.
     fn pages_rule(self) -> Option<Rule<5>> {
         for node in 0..most_nodes(self.version) {
             if let Some(rule) = self.node_rule(node) {
@@ -223,7 +223,7 @@ impl Fields<'_> {
         None
     }
 
-    /// What is said of a link that leads to no end, or to one that doesn't lead back.
+    /// Gives what is wrong with a link that leads to no end, or to a link that doesn't lead back.
     fn wrong_end(self, end: usize) -> Rule<5> {
         let (first, other) = (first_port(self.version), end.saturating_sub(1));
         let port = end.saturating_sub(first);
@@ -277,7 +277,7 @@ impl Fields<'_> {
         push_words(text, rule.words, &rule.values)
     }
 
-    /// The first link that leads to a wrong end, and that end.
+    /// Finds the first link that leads to a wrong end, and gives both; `None` if there is none.
     fn wrong_link(self) -> Option<(usize, usize)> {
         for link in 0..self.nodes.saturating_mul(4) {
             let end = self.end(link);
@@ -288,7 +288,7 @@ impl Fields<'_> {
         None
     }
 
-    /// What is said of the fields before those of the links' ends.
+    /// Gives what is wrong with the fields before those of the links' ends; `None` if nothing is.
     fn front_rule(self) -> Option<Rule<5>> {
         if let Some(rule) = self.counts_rule() {
             return Some(rule);
@@ -299,14 +299,14 @@ impl Fields<'_> {
         }
     }
 
-    /// What is said of the bytes after the fields.
+    /// Gives what is wrong with the bytes after the fields; `None` if nothing is.
     fn rest_rule(self) -> Option<Rule<5>> {
         let behind = self.end_place(self.nodes.saturating_mul(4));
         self.filled_rule(behind, self.head.len())
     }
 }
 
-/// Appends a rule, if there is one: whether there is.
+/// Appends a rule, if there is one. Answers whether there is.
 fn push_found(text: &mut String, rule: Option<Rule<5>>) -> Result<bool, AllocError> {
     match rule {
         Some(rule) => {
@@ -317,7 +317,7 @@ fn push_found(text: &mut String, rule: Option<Rule<5>>) -> Result<bool, AllocErr
     }
 }
 
-/// Appends which rule the fields of a head break, if they break one: whether they do.
+/// Appends which rule the fields of a head break. Answers whether they break one.
 pub(crate) fn push_broken(
     text: &mut String,
     version: HeadVersion,

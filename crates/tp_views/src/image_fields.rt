@@ -1,10 +1,7 @@
-//! The fields of a node's image, but for its processor.
+//! The fields of a node's image, except for its processor.
 
 ghost use Rattle.std.specs.Prelude.{◌≡◌, ◌<◌, ◌^◌, ◌==◌, if◌then◌else◌, drop};
-ghost use Rattle.tp_model.specs.Bytes.{u8_at};
-ghost use Rattle.tp_model.specs.EndBytes.{ends_at, in_end_at, out_end_at, transfer_at};
-ghost use Rattle.tp_model.specs.Image.{page_count};
-ghost use Rattle.tp_model.specs.declared.limits.TheConstants.{IMAGE_HEAD_BYTES};
+ghost use Rattle.tp_views.specs.Lower.{u8_at, ends_at, in_end_at, out_end_at, transfer_at, page_count, IMAGE_HEAD_BYTES};
 
 use tp_model::limits::{IMAGE_HEAD_BYTES, PAGE_BYTES};
 use tp_model::{InEnd, OutEnd, Transfer};
@@ -42,7 +39,7 @@ fn output_in(image: &[u8], at: usize) -> OutEnd
     }
 }
 
-/// The byte that an input end holds, if it holds one.
+/// Gives the byte that an input end holds; `None` if it holds none.
 fn held_in(image: &[u8], at: usize) -> Option<u8>
     requires { at < 2 ^ 16 }
     ensures { result ≡ (if u8_at (drop at image.now) 1 == 0 then None else Some (u8_at (drop at image.now) 2)) }
@@ -68,7 +65,7 @@ fn input_in(image: &[u8], at: usize) -> InEnd
     }
 }
 
-/// The output ends of links 0 to 3.
+/// Gives the output ends of links 0 to 3.
 pub(crate) fn outputs_in(image: &[u8]) -> [OutEnd; 4]
     ensures { result ≡ ends_at out_end_at 4 (drop 44 image.now) }
 {
@@ -80,7 +77,7 @@ pub(crate) fn outputs_in(image: &[u8]) -> [OutEnd; 4]
     ]
 }
 
-/// The input ends of links 0 to 3.
+/// Gives the input ends of links 0 to 3.
 pub(crate) fn inputs_in(image: &[u8]) -> [InEnd; 4]
     ensures { result ≡ ends_at in_end_at 4 (drop 108 image.now) }
 {

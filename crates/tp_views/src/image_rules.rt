@@ -1,4 +1,4 @@
-//! Which rule of a node's image bytes break.
+//! Which rule the bytes of a node's image break.
 
 use crate::parts::Part::{Number, Text, Word};
 use crate::rules::{NOTHING, Rule, push_words};
@@ -12,51 +12,51 @@ use tp_node::image_places::{
 use tp_node::{ImageFault, Node};
 use tp_trace::{byte_in, half_in, word_in};
 
-/// A byte of an image's head and the most that it may be.
+/// Bytes of an image's head, and the most that each may be.
 const BYTES: &[(usize, u8, &str)] = &[
     (HALT_PLACE, 4, "the halt code, 0 to 4"),
     (ERROR_PLACE, 1, "the Error flag, 0 or 1"),
     (STATE_PLACE, 2, "the state, 0 idle, 1 high or 2 low"),
 ];
 
-/// The rule that is left if all others hold.
+/// Said if no other rule is broken.
 const BAD_END: &[&str] = &["a link end in bytes 44 to 171 of its head breaks its rule"];
 
-/// What is said of an image that is shorter than its head.
+/// Said of an image that is shorter than its head.
 const SHORT: &[&str] = &["it has ", " bytes, fewer than the ", " of an image's head"];
 
-/// What is said of an image of another version.
+/// Said of an image of another version.
 const VERSION: &[&str] = &["byte 0 of its head, the version, must be ", " and is "];
 
-/// What is said of an image whose pages are too few or too many.
+/// Said of an image with too few or too many pages.
 const PAGES: &[&str] = &[
     "bytes 2 and 3 of its head, the pages, must be ",
     " to ",
     " and are ",
 ];
 
-/// What is said of an image that has other bytes than its pages ask for.
+/// Said of an image whose length doesn't fit its pages.
 const LENGTH: &[&str] = &["it must have ", " bytes for ", " pages and has "];
 
-/// What is said of an image whose pages aren't those of the topology.
+/// Said of an image that has other pages than the topology says.
 const WANTED: &[&str] = &["it has ", " pages and the topology says "];
 
-/// What is said of a byte of the head that is too great.
+/// Said of a byte of the head that is too great.
 const BYTE: &[&str] = &["byte ", " of its head is ", " and must be "];
 
-/// What is said of a workspace pointer between words.
+/// Said of a workspace pointer that isn't at a word.
 const WORKSPACE: &[&str] = &[
     "bytes 8 to 11 of its head, Wptr, are ",
     " and must have their two low bits 0",
 ];
 
-/// What is said of a slice that is too long.
+/// Said of a slice that is too long.
 const SLICE_COUNT: &[&str] = &[
     "bytes 42 and 43 of its head, the slice count, are ",
     " and must be at most ",
 ];
 
-/// What is said of a link end that is at work.
+/// Said of a link end that is at work.
 const BUSY: &[&str] = &[
     "the ",
     " end of link ",
@@ -64,7 +64,7 @@ const BUSY: &[&str] = &[
     " of its head, must be idle and hold no byte",
 ];
 
-/// The rule on the pages that an image breaks, if the topology asks for `wanted` of them.
+/// Gives the rule about pages that an image breaks, if the topology asks for `wanted` pages; `None` if it breaks none.
 fn wanted_rule(pages: u16, wanted: Option<u16>) -> Option<Rule<3>> {
     match wanted {
         Some(count) if count != pages => Some(Rule {
@@ -75,7 +75,7 @@ fn wanted_rule(pages: u16, wanted: Option<u16>) -> Option<Rule<3>> {
     }
 }
 
-/// The rule on lengths that an image with a head breaks, if the topology asks for `wanted` pages.
+/// Gives the rule about lengths that an image with a head breaks, if the topology asks for `wanted` pages; `None` if it breaks none.
 fn pages_rule(image: &[u8], wanted: Option<u16>) -> Option<Rule<3>> {
     let (length, pages) = (image.len(), half_in(image, PAGES_PLACE));
     let count = usize::from(pages);
@@ -103,7 +103,7 @@ fn pages_rule(image: &[u8], wanted: Option<u16>) -> Option<Rule<3>> {
     wanted_rule(pages, wanted)
 }
 
-/// The rule on lengths and the version that an image breaks, if the topology asks for `wanted` pages.
+/// Gives the rule about lengths and the version that an image breaks, if the topology asks for `wanted` pages; `None` if it breaks none.
 fn length_rule(image: &[u8], wanted: Option<u16>) -> Option<Rule<3>> {
     let length = image.len();
     if length < IMAGE_HEAD_BYTES {
@@ -130,7 +130,7 @@ fn length_rule(image: &[u8], wanted: Option<u16>) -> Option<Rule<3>> {
     pages_rule(image, wanted)
 }
 
-/// The first byte of the head that is too great.
+/// Gives the first byte of the head that is too great; `None` if none is.
 fn byte_rule(image: &[u8]) -> Option<Rule<3>> {
     for row in BYTES {
         let (at, most, what) = *row;
@@ -145,7 +145,7 @@ fn byte_rule(image: &[u8]) -> Option<Rule<3>> {
     None
 }
 
-/// What is wrong with the workspace pointer or the slice count of the head.
+/// Gives what is wrong with the workspace pointer or the slice count of the head; `None` if nothing is.
 fn count_rule(image: &[u8]) -> Option<Rule<3>> {
     let (workspace, slice) = (word_in(image, WPTR_PLACE), half_in(image, SLICE_PLACE));
     if workspace % 4 != 0 {
@@ -163,7 +163,7 @@ fn count_rule(image: &[u8]) -> Option<Rule<3>> {
     None
 }
 
-/// The first link end that is at work.
+/// Gives the first link end that is at work; `None` if none is.
 fn busy_rule(image: &[u8]) -> Option<Rule<3>> {
     for end in 0..8u8 {
         let at = OUTPUTS_PLACE + END_BYTES * usize::from(end);
@@ -183,7 +183,7 @@ fn busy_rule(image: &[u8]) -> Option<Rule<3>> {
     None
 }
 
-/// The rule on the bytes of the head that an image breaks. On a device ends may be at work.
+/// Gives the rule about the bytes of the head that an image breaks; `None` if it breaks none. On a device, ends may be at work.
 fn head_rule(image: &[u8], must_be_idle: bool) -> Option<Rule<3>> {
     match byte_rule(image) {
         Some(rule) => Some(rule),
@@ -195,7 +195,7 @@ fn head_rule(image: &[u8], must_be_idle: bool) -> Option<Rule<3>> {
     }
 }
 
-/// The rule that an image breaks, if it breaks one.
+/// Gives the rule that an image breaks; `None` if it breaks none.
 fn rule_of(alloc: Global, image: &[u8], pages: Option<u16>, must_be_idle: bool) -> Option<Rule<3>> {
     if let Some(rule) = length_rule(image, pages) {
         return Some(rule);
@@ -212,7 +212,7 @@ fn rule_of(alloc: Global, image: &[u8], pages: Option<u16>, must_be_idle: bool) 
     }
 }
 
-/// Which rule an image breaks, in words, if it breaks one. On a device ends may be at work.
+/// Gives which rule an image breaks, in words; `None` if it breaks none. On a device, ends may be at work.
 pub(crate) fn broken_rule(
     alloc: Global,
     image: &[u8],

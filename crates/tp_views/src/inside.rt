@@ -1,4 +1,4 @@
-//! Whether processes wait for other nodes, said after a stream that ended since nothing was left to do.
+//! Whether processes wait for other nodes. It is said after a stream that ended because nothing was left to do.
 
 ghost use Rattle.std.specs.Prelude.{◌≡◌, IfOk};
 ghost use Rattle.tp_recover.specs.Reading.{LeavesNothingNew};
@@ -43,7 +43,7 @@ pub fn has_inside<D: Disk>(alloc: Global, disk: &mut D) -> Result<bool, Refusal>
     }
 }
 
-/// Says of a device whether processes wait for other nodes, and which command shows them. Of one that doesn't open nothing is said.
+/// Says of a device whether processes wait for other nodes, and which command shows them. If the device doesn't open, it says nothing.
 pub fn tell_inside<R: Files<File = F> + AllocGlobal, F: FileExt + OpenFile + Drop, E: Write>(
     rt: &R,
     device: &str,

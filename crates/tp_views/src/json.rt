@@ -5,14 +5,14 @@ ghost use Rattle.tp_views.specs.Json.{comma, json_bool};
 
 use std::alloc::AllocError;
 
-/// What is before an item of a list that has `before` items before it.
+/// Gives what comes before an item of a list, if `before` items come before it.
 pub(crate) fn comma(before: usize) -> &'static str
     ensures { result.now ≡ comma before }
 {
     if before == 0 { "" } else { "," }
 }
 
-/// Whether something is so.
+/// Gives the word for whether something is true.
 pub(crate) fn json_bool(is_so: bool) -> &'static str
     ensures { result.now ≡ json_bool is_so }
 {

@@ -38,7 +38,7 @@ fn push_shape(text: &mut String, nodes: usize, ports: usize, version: u8) -> Res
     )
 }
 
-/// Appends how large an area has to be at least.
+/// Appends how large an area must be at least.
 fn push_least(text: &mut String, topology: &Topology) -> Result<(), AllocError>
     requires { is_topology topology.now ≡ true }
     ensures { OnOk result (string_bytes text.new ≡ string_bytes text.old ++ least_json (area_for topology.now 1)) }
@@ -47,7 +47,7 @@ fn push_least(text: &mut String, topology: &Topology) -> Result<(), AllocError>
     push_parts(text, &[Text(",\"least_area\":"), Number(least)])
 }
 
-/// Appends how large an area is if none is asked for.
+/// Appends how large an area is by default.
 fn push_default(text: &mut String, topology: &Topology) -> Result<(), AllocError>
     ensures { OnOk result (string_bytes text.new ≡ string_bytes text.old ++ default_json (default_area topology.now)) }
 {
@@ -79,7 +79,7 @@ fn push_item(text: &mut String, before: usize, entries: u32, area: u64) -> Resul
     )
 }
 
-/// Appends how large an area has to be whose journal has room for `entries`, after `before` others.
+/// Appends how large an area must be so that its journal has room for `entries` entries, after `before` other items.
 fn push_area(
     text: &mut String,
     before: usize,
@@ -104,7 +104,7 @@ fn push_areas(text: &mut String, topology: &Topology, journals: &[u32]) -> Resul
     Ok(())
 }
 
-/// The object of a topology.
+/// Gives the object of a topology.
 pub(crate) fn checked_json(alloc: Global, topology: &Topology) -> Result<String, AllocError>
     requires { is_topology topology.now ≡ true }
     ensures { IfOk result (λ text. string_bytes text ≡ checked_json topology.now) }

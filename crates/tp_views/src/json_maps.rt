@@ -1,7 +1,7 @@
 //! What a map says of an address, for scripts.
 
-ghost use Rattle.std.specs.Option.{option_map};
 ghost use Rattle.std.specs.Prelude.{◌≡◌, ◌++◌, ◌≤◌, IfSome, OnOk, string_bytes};
+ghost use Rattle.std.specs.Option.{option_map};
 ghost use Rattle.tp_views.specs.JsonMaps.{label_fields, spot_fields};
 ghost use Rattle.tp_views.specs.Maps.{row_seen, rows_seen};
 

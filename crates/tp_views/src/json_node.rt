@@ -1,8 +1,7 @@
 //! What is printed of a node for scripts: its registers, queues and link ends, as numbers.
 
-ghost use Rattle.std.specs.Fmt.{decimal};
 ghost use Rattle.std.specs.Prelude.{◌≡◌, ◌++◌, IfOk, OnOk, codes, string_bytes, map};
-ghost use Rattle.tp_model.specs.Image.{node_at};
+ghost use Rattle.tp_views.specs.Lower.{decimal, node_at};
 ghost use Rattle.tp_views.specs.Json.{comma, json_items, json_list};
 ghost use Rattle.tp_views.specs.Maps.{rows_seen};
 ghost use Rattle.tp_views.specs.JsonNode.{cpu_fields, idle_item, input_item, node_fields, node_json, number_fields, output_item, pointer_fields, queue_field, stack_fields, state_fields, working_item};
@@ -20,10 +19,10 @@ use tp_model::{Cpu, Fault, InEnd, OutEnd, Queue, Regs, State, Transfer};
 use tp_node::halt_byte;
 use tp_trace::{cpu_in, state_name};
 
-/// What stands before the byte that an idle input end holds.
+/// Comes before the byte that an idle input end holds.
 const HELD: &str = "{\"state\":\"idle\",\"held\":";
 
-/// What stands before the process that waits at an input end in an alternative.
+/// Comes before the process that waits at an input end in an alternative.
 const ENABLED: &str = "{\"state\":\"enabled\",\"process\":";
 
 fn push_number(
@@ -51,7 +50,7 @@ fn push_number(
     )
 }
 
-/// Appends where a processor is, and what its map says of that.
+/// Appends the addresses at which a processor is, and what its map says of them.
 fn push_pointers(
     text: &mut String,
     rows: &[MapRow<'_>],
@@ -117,14 +116,14 @@ fn push_cpu(text: &mut String, rows: &[MapRow<'_>], cpu: &Cpu) -> Result<(), All
     push_state(text, cpu.regs.error, cpu.state, cpu.slice)
 }
 
-/// Appends the item of an end at which nothing is under way, behind `before` ends.
+/// Appends the item of an end at which nothing is under way, after `before` other ends.
 fn push_idle(text: &mut String, before: usize) -> Result<(), AllocError>
     ensures { OnOk result (string_bytes text.new ≡ string_bytes text.old ++ (comma before ++ idle_item)) }
 {
     push_parts(text, &[Text(comma(before)), Text("{\"state\":\"idle\"}")])
 }
 
-/// Appends the item of an end at which a process waits, behind `before` ends.
+/// Appends the item of an end at which a process waits, after `before` other ends.
 fn push_working(
     text: &mut String,
     before: usize,
@@ -150,7 +149,7 @@ fn push_working(
     )
 }
 
-/// Appends the item of an input end with one number, behind `before` ends.
+/// Appends the item of an input end with one number, after `before` other ends.
 fn push_numbered(
     text: &mut String,
     before: usize,
@@ -165,7 +164,7 @@ fn push_numbered(
     )
 }
 
-/// Appends the item of an output end that has `before` ends before it.
+/// Appends the item of an output end, after `before` other ends.
 fn push_output(text: &mut String, before: usize, end: OutEnd) -> Result<(), AllocError>
     ensures { OnOk result (string_bytes text.new ≡ string_bytes text.old ++ (comma before ++ output_item end)) }
 {
@@ -175,7 +174,7 @@ fn push_output(text: &mut String, before: usize, end: OutEnd) -> Result<(), Allo
     }
 }
 
-/// Appends the item of an input end that has `before` ends before it.
+/// Appends the item of an input end, after `before` other ends.
 fn push_input(text: &mut String, before: usize, end: InEnd) -> Result<(), AllocError>
     ensures { OnOk result (string_bytes text.new ≡ string_bytes text.old ++ (comma before ++ input_item end)) }
 {
@@ -241,7 +240,7 @@ fn push_fields(
     push_input_list(text, inputs)
 }
 
-/// The fields of a node, by its pages, its processor and its ends.
+/// Gives the fields of a node, by its pages, its processor and its ends.
 fn node_fields(
     alloc: Global,
     rows: &[MapRow<'_>],
@@ -258,7 +257,7 @@ fn node_fields(
     Ok(text)
 }
 
-/// What is printed of a node, which its image spells, as JSON, up to what it has done; its map has these rows.
+/// Gives what is printed as JSON of the node in an image, up to what it has done. `rows` are its map's.
 pub(crate) fn node_json(
     alloc: Global,
     rows: &[MapRow<'_>],

@@ -1,8 +1,7 @@
 //! What is printed of a port for scripts.
 
 ghost use Rattle.std.specs.Prelude.{◌≡◌, ◌++◌, IfOk, OnOk, string_bytes, map, slice_get};
-ghost use Rattle.std.specs.Fmt.{decimal};
-ghost use Rattle.std.specs.Option.{option_map};
+ghost use Rattle.tp_views.specs.Lower.{decimal, option_map};
 ghost use Rattle.tp_views.specs.Json.{comma, json_items, json_list};
 ghost use Rattle.tp_views.specs.JsonPort.{outputs_json, pending_json, port_json};
 
@@ -14,7 +13,7 @@ use std::fmt::Write;
 use tp_book::HostPort;
 use tp_replay::FlatNetwork;
 
-/// Appends a byte that has `before` bytes before it.
+/// Appends a byte, after `before` other bytes.
 fn push_byte(text: &mut String, before: usize, byte: u8) -> Result<(), AllocError>
     ensures { OnOk result (string_bytes text.new ≡ string_bytes text.old ++ (comma before ++ decimal byte)) }
 {
@@ -38,7 +37,7 @@ fn push_byte_list(text: &mut String, bytes: &[u8]) -> Result<(), AllocError>
     push(text, "]")
 }
 
-/// Some bytes of a port. `from` bytes came before them.
+/// Gives the object of some bytes of a port. `from` bytes came before them.
 fn port_json(alloc: Global, number: u64, from: u64, bytes: &[u8]) -> Result<String, AllocError>
     ensures { IfOk result (λ text. string_bytes text ≡ port_json number from bytes.now) }
 {
@@ -62,7 +61,7 @@ fn outputs_json(alloc: Global, number: u64, port: &HostPort) -> Result<Vec<u8>, 
     Ok(text.into_bytes())
 }
 
-/// The bytes handed in to a port that no node has taken, as JSON, if the port is there.
+/// Gives the bytes that were handed in to a port and that no node has taken, as JSON; `None` if there is no such port.
 pub(crate) fn pending_json_in(
     alloc: Global,
     network: &FlatNetwork,
@@ -77,7 +76,7 @@ pub(crate) fn pending_json_in(
     Ok(Some(pending_json(alloc, port, &ports[at])?))
 }
 
-/// The output of a port that isn't confirmed, as JSON, if the port is there.
+/// Gives the outputs of a port that aren't confirmed, as JSON; `None` if there is no such port.
 pub(crate) fn outputs_json_in(
     alloc: Global,
     network: &FlatNetwork,

@@ -13,7 +13,7 @@ use tp_book::HostPort;
 use tp_node::{Node, halt_byte};
 use tp_replay::FlatNetwork;
 
-/// Appends the item of a node that has `before` nodes before it.
+/// Appends the item of a node, after `before` other nodes.
 fn push_node(text: &mut String, before: usize, node: &Node) -> Result<(), AllocError>
     ensures { OnOk result (string_bytes text.new ≡ string_bytes text.old ++ (comma before ++ node_item node.now.live)) }
 {
@@ -62,7 +62,7 @@ fn push_port_item(text: &mut String, port: &HostPort) -> Result<(), AllocError>
     push_counts(text, port.in_base(), pending, port.out_base(), unconfirmed)
 }
 
-/// Appends the item of a port that has `before` ports before it.
+/// Appends the item of a port, after `before` other ports.
 fn push_port(text: &mut String, before: usize, port: &HostPort) -> Result<(), AllocError>
     ensures { OnOk result (string_bytes text.new ≡ string_bytes text.old ++ (comma before ++ port_item port.now.port)) }
 {
@@ -124,7 +124,7 @@ fn push_show(text: &mut String, front: Front, now: &FlatNetwork) -> Result<(), A
     push_front(text, front)
 }
 
-/// All that is shown of a device, as JSON.
+/// Gives all that is shown of a device, as JSON.
 pub fn show_json(alloc: Global, front: Front, now: &FlatNetwork) -> Result<String, AllocError>
     ensures { IfOk result (λ text. string_bytes text ≡ show_json front now.now) }
 {

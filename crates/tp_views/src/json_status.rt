@@ -1,4 +1,4 @@
-//! What a look of `tpnet status` prints for scripts.
+//! What one check of `tpnet status` prints for scripts.
 
 ghost use Rattle.std.specs.Prelude.{◌≡◌, ◌≤◌, ◌<◌, ◌+◌, ◌^◌, ◌++◌, List, ℕ, IfOk, OnOk, map, string_bytes};
 ghost use Rattle.tp_node.specs.Standing.{standing};
@@ -25,7 +25,7 @@ use tp_node::{Node, Standing};
 use tp_recover::Opened;
 use tp_trace::fault_name;
 
-/// Appends by how much a count grew in a second, or null.
+/// Appends by how much a count grew in a second; `null` if it wasn't seen before.
 fn push_rate(text: &mut String, now: u128, since: Option<Since>) -> Result<(), AllocError>
     requires { now < 2 ^ 65 }
     ensures { OnOk result (string_bytes text.new ≡ string_bytes text.old ++ rate now since) }
@@ -39,7 +39,7 @@ fn push_rate(text: &mut String, now: u128, since: Option<Since>) -> Result<(), A
     }
 }
 
-/// Whether a process holds the device.
+/// Gives the field that says whether a process holds the device.
 fn running_part(held: bool) -> &'static str
     ensures { result.now ≡ running_part held }
 {
@@ -209,7 +209,7 @@ fn push_port(
     push_out(text, unconfirmed, put_out(port), then_out)
 }
 
-/// Appends a port that has `number` ports before it.
+/// Appends a port, after `number` other ports.
 fn push_port_item(
     text: &mut String,
     number: usize,
@@ -243,7 +243,7 @@ fn push_ports(
     Ok(())
 }
 
-/// Appends the item of a node that has halted, behind a comma where one is due.
+/// Appends the item of a node that has halted, after a comma if other items come before it.
 fn push_item<'a>(
     text: &mut String,
     comma: &'a str,
@@ -268,7 +268,7 @@ fn push_item<'a>(
     )
 }
 
-/// Appends why and where a node has halted, if it has, behind `before` others. Answers how many there are then.
+/// Appends why a node has halted, and at which address, if it has; `before` other items come before it. Answers how many there are afterwards.
 fn push_halted(
     text: &mut String,
     before: usize,
@@ -308,7 +308,7 @@ fn push_halts(text: &mut String, nodes: &[Node]) -> Result<(), AllocError>
     push(text, "]")
 }
 
-/// Appends the item of how many entries and steps a node has made, with what stands before it.
+/// Appends the item of how many entries and steps a node has made, and what comes before it.
 fn push_counts<'a>(
     text: &mut String,
     comma: &'a str,
@@ -330,7 +330,7 @@ fn push_counts<'a>(
     )
 }
 
-/// Appends the item of a node that has `number` nodes before it.
+/// Appends the item of a node, after `number` other nodes.
 fn push_node_item(
     text: &mut String,
     number: usize,
@@ -384,8 +384,8 @@ fn push_done(text: &mut String, opened: &Opened) -> Result<(), AllocError>
     push(text, "]")
 }
 
-/// The object of an opened device: `held` says whether a process holds it, and `before` what a look before saw; it is `at` milliseconds, and
-/// `clock` the seconds since 1970, if the object has them.
+/// Gives the object of an opened device. `held` says whether a process holds it, `at` is the time in milliseconds, and `before` is what the check
+/// before saw. `clock` is the seconds since 1970; with `None` the object has no time of day.
 fn status_json(
     alloc: Global,
     held: bool,
@@ -409,7 +409,7 @@ fn status_json(
     Ok(text)
 }
 
-/// What is printed of a look, as JSON or as a line.
+/// Gives what one check prints, as JSON or as a line.
 pub(crate) fn look_text(
     alloc: Global,
     json: bool,

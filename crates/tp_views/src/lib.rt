@@ -1,4 +1,4 @@
-//! The commands that write no device, over any device and two writers: what they print, and what is said of a refusal.
+//! The commands that write no device: what they print, and what they say of a refusal. They work on any device and any two writers.
 #![tactic(auto)]
 
 mod areas;

@@ -2,7 +2,7 @@
 
 use tp_model::limits::{MAX_NAME, MAX_PAGES, MIN_PAGES};
 
-/// A rule that a line breaks, and the word that breaks it, which is empty if it can't be shown.
+/// A rule that a line breaks, and the word that breaks it. The word is empty if it can't be shown.
 #[derive(Clone, Copy)]
 pub(crate) struct Broken<'a> {
     pub(crate) word: &'a str,
@@ -49,7 +49,7 @@ const NEITHER: &str =
 
 const OTHER: &str = "a line is node NAME PAGES, port NAME, wire END END, empty or a comment";
 
-/// How many words a line has that begins with this one, and what is said of another number.
+/// How many words a line has that begins with this word, and what is said of another number of words.
 #[derive(Clone, Copy)]
 struct Shape {
     kind: &'static [u8],
@@ -79,17 +79,17 @@ const SHAPES: &[Shape] = &[
     },
 ];
 
-/// A word as text; one that is none has no character.
+/// Gives a word as text; empty if it isn't text.
 fn text_of(word: &[u8]) -> &str {
     str::from_utf8(word).unwrap_or_default()
 }
 
-/// A rule that a line breaks as a whole.
+/// Gives a rule that a line breaks as a whole.
 fn by_line<'a>(rule: &'static str) -> Option<Broken<'a>> {
     Some(Broken { word: "", rule })
 }
 
-/// A rule that a word breaks.
+/// Gives a rule that a word breaks.
 fn by_word<'a>(word: &'a [u8], rule: &'static str) -> Option<Broken<'a>> {
     Some(Broken {
         word: text_of(word),
@@ -97,7 +97,7 @@ fn by_word<'a>(word: &'a [u8], rule: &'static str) -> Option<Broken<'a>> {
     })
 }
 
-/// A line without the CR before its end.
+/// Gives a line without the CR at its end.
 fn without_return(line: &[u8]) -> &[u8] {
     match line.split_last() {
         Some((b'\r', front)) => front,
@@ -105,14 +105,14 @@ fn without_return(line: &[u8]) -> &[u8] {
     }
 }
 
-/// The word of a line with a number from 0 on.
+/// Gives the word of a line with this number, counted from 0.
 fn word_at(line: &[u8], number: usize) -> Option<&[u8]> {
     line.split(|byte| *byte == b' ')
         .filter(|word| !word.is_empty())
         .nth(number)
 }
 
-/// The first word of a line that declares this name.
+/// Gives the first word of a line, if the line declares this name.
 fn kind_in<'a>(line: &'a [u8], name: &[u8]) -> Option<&'a [u8]> {
     let kind = word_at(line, 0)?;
     let declares = kind == b"node".as_slice() || kind == b"port".as_slice();
@@ -123,7 +123,7 @@ fn kind_in<'a>(line: &'a [u8], name: &[u8]) -> Option<&'a [u8]> {
     }
 }
 
-/// The first word of the line that declares this name, if one of these lines does.
+/// Gives the first word of the line that declares this name; `None` if none of these lines does.
 fn kind_of<'a>(lines: &'a [u8], name: &[u8]) -> Option<&'a [u8]> {
     for line in lines.split(|byte| *byte == b'\n') {
         let kind = kind_in(without_return(line), name);
@@ -144,7 +144,7 @@ fn has_kind(text: &[u8], kind: &[u8]) -> bool {
     false
 }
 
-/// What is missing in a text whose lines all are sound, and which says no topology.
+/// Gives what is missing in a text that says no topology, though all its lines are sound.
 pub(crate) fn missing(text: &[u8]) -> &'static str {
     match (has_kind(text, b"node"), has_kind(text, b"port")) {
         (false, false) => NEITHER,
@@ -153,7 +153,7 @@ pub(crate) fn missing(text: &[u8]) -> &'static str {
     }
 }
 
-/// Which rule on spaces and control characters a line breaks.
+/// Gives which rule about spaces and control characters a line breaks; `None` if it breaks none.
 fn spaces_rule(line: &[u8]) -> Option<Broken<'_>> {
     if line.first() == Some(&b' ') {
         return by_line(SPACE_BEFORE);
@@ -167,7 +167,7 @@ fn spaces_rule(line: &[u8]) -> Option<Broken<'_>> {
     None
 }
 
-/// Which rule on the number of its words a line breaks, or on its first one.
+/// Gives which rule about its first word or the number of its words a line breaks; `None` if it breaks none.
 fn count_rule(line: &[u8]) -> Option<Broken<'_>> {
     let kind = word_at(line, 0)?;
     for shape in SHAPES {
@@ -186,7 +186,7 @@ fn is_name_byte(byte: u8) -> bool {
     byte.is_ascii_lowercase() || byte.is_ascii_digit() || byte == b'-'
 }
 
-/// Which rule on names a word breaks by its name.
+/// Gives which rule about names `name` breaks, which is in `word`.
 fn name_rule<'a>(word: &'a [u8], name: &[u8]) -> Option<Broken<'a>> {
     let Some(first) = name.first() else {
         return by_word(word, NAME_MISSING);
@@ -203,7 +203,7 @@ fn name_rule<'a>(word: &'a [u8], name: &[u8]) -> Option<Broken<'a>> {
     None
 }
 
-/// Which rule on pages a word breaks.
+/// Gives which rule about pages a word breaks; `None` if it breaks none.
 fn pages_rule(word: &[u8]) -> Option<Broken<'_>> {
     let is_decimal = word.iter().all(|byte| byte.is_ascii_digit());
     if !is_decimal || word.first() == Some(&b'0') {
@@ -215,13 +215,13 @@ fn pages_rule(word: &[u8]) -> Option<Broken<'_>> {
     }
 }
 
-/// The rule that a name breaks which a line above has.
+/// Gives the rule that a name breaks if a line above has that name.
 fn taken_rule<'a>(above: &[u8], name: &'a [u8]) -> Option<Broken<'a>> {
     kind_of(above, name)?;
     by_word(name, NAME_TAKEN)
 }
 
-/// A word before its first dot, and after it, if it has one.
+/// Gives a word up to its first dot, and what comes after the dot, if it has one.
 fn cut_at_dot(word: &[u8]) -> (&[u8], Option<&[u8]>) {
     match word.iter().position(|byte| *byte == b'.') {
         Some(at) => (
@@ -232,7 +232,7 @@ fn cut_at_dot(word: &[u8]) -> (&[u8], Option<&[u8]>) {
     }
 }
 
-/// Which rule the end of a wire breaks by itself.
+/// Gives which rule the end of a wire breaks by itself; `None` if it breaks none.
 fn end_rule(word: &[u8]) -> Option<Broken<'_>> {
     let (name, link) = cut_at_dot(word);
     let broken = name_rule(word, name);
@@ -242,7 +242,7 @@ fn end_rule(word: &[u8]) -> Option<Broken<'_>> {
     }
 }
 
-/// Which rule the end of a wire breaks by what the lines above declare.
+/// Gives which rule the end of a wire breaks, by what the lines above declare; `None` if it breaks none.
 fn kind_rule<'a>(above: &[u8], word: &'a [u8]) -> Option<Broken<'a>> {
     let (name, link) = cut_at_dot(word);
     let is_port = kind_of(above, name)? == b"port".as_slice();
@@ -253,7 +253,7 @@ fn kind_rule<'a>(above: &[u8], word: &'a [u8]) -> Option<Broken<'a>> {
     }
 }
 
-/// Which rule a wire breaks by its ends.
+/// Gives which rule a wire breaks by its ends; `None` if it breaks none.
 fn wire_rule<'a>(above: &[u8], first: &'a [u8], second: &'a [u8]) -> Option<Broken<'a>> {
     end_rule(first)
         .or(end_rule(second))
@@ -262,7 +262,7 @@ fn wire_rule<'a>(above: &[u8], first: &'a [u8], second: &'a [u8]) -> Option<Brok
         .or(by_line(TWO_PORTS))
 }
 
-/// Which rule a line breaks by its words; their number is right.
+/// Gives which rule a line breaks by its words, if their number is right; `None` if it breaks none.
 fn words_rule<'a>(above: &[u8], line: &'a [u8]) -> Option<Broken<'a>> {
     let (kind, first) = (word_at(line, 0)?, word_at(line, 1)?);
     let Some(second) = word_at(line, 2) else {
@@ -276,7 +276,7 @@ fn words_rule<'a>(above: &[u8], line: &'a [u8]) -> Option<Broken<'a>> {
         .or(taken_rule(above, first))
 }
 
-/// Which rule a malformed line breaks; `above` is what is above it, without a fault.
+/// Gives which rule a malformed line breaks. `above` are the lines above it, which have no fault.
 pub(crate) fn broken_rule<'a>(above: &[u8], line: &'a [u8]) -> Broken<'a> {
     let broken = spaces_rule(line)
         .or(count_rule(line))

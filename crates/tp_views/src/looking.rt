@@ -1,4 +1,4 @@
-//! What is at a path, looked at again, and what the system says of it.
+//! What is at a path when it is checked again, and what the system says of it.
 
 use std::alloc::AllocError;
 use std::fmt::Write as Push;
@@ -12,7 +12,7 @@ pub fn push_error(text: &mut String, path: &str, error: &io::Error) -> Result<()
     write!(text, "  {shown}: {error}\n")
 }
 
-/// The way out of what the system said of a path.
+/// Gives the way out, for what the system said of a path.
 fn way_out(kind: io::ErrorKind) -> &'static str {
     match kind {
         io::ErrorKind::OutOfMemory => {
@@ -36,7 +36,7 @@ pub fn push_file(text: &mut String, path: &str, error: &io::Error) -> Result<(),
     write!(text, "  {way}\n")
 }
 
-/// Says what is left if all files are good.
+/// Says what else may be the reason, if all files are good.
 pub(crate) fn push_rest(text: &mut String) -> Result<(), AllocError> {
     text.push_str(
         "  All files are good now: standard output can't be written, or memory is wanting.\n",
@@ -68,7 +68,7 @@ fn push_unread(text: &mut String, path: &str) -> Result<(), AllocError> {
     )
 }
 
-/// Reads a whole file again. If it isn't, says why.
+/// Reads a whole file again. If that fails, it says why.
 pub fn read_again<R: Files + AllocGlobal>(
     rt: &R,
     text: &mut String,

@@ -1,4 +1,4 @@
-//! The files of the maps of a device's nodes, which are in a folder, and what is wrong with them.
+//! The maps of a device's nodes, as files of a folder, and what is wrong with them.
 
 use crate::looking::{is_regular, read_again};
 use crate::maps::{MapFault, read_map};
@@ -8,7 +8,7 @@ use std::fs::Files;
 use tp_model::limits::MAX_NODES;
 use tp_words::Shown;
 
-/// The path of a node's own map in a folder; `None`: of the one of each node that has none of its own.
+/// Gives the path of a node's own map in a folder; with `None`, of the map for all nodes without one of their own.
 pub fn map_path(alloc: Global, folder: &str, node: Option<usize>) -> Result<String, AllocError> {
     match node {
         Some(node) => format!(in alloc; "{folder}/{node}.map"),
@@ -16,7 +16,7 @@ pub fn map_path(alloc: Global, folder: &str, node: Option<usize>) -> Result<Stri
     }
 }
 
-/// Says that a line of a map is none, and what one is.
+/// Says that a line isn't one of a map, and what such a line is.
 fn push_line(text: &mut String, path: &str, number: u64) -> Result<(), AllocError> {
     let shown = Shown::all(path);
     write!(
@@ -25,7 +25,7 @@ fn push_line(text: &mut String, path: &str, number: u64) -> Result<(), AllocErro
     )
 }
 
-/// Says what is wrong with a map: whether anything is.
+/// Says what is wrong with a map. Answers whether anything is.
 fn push_map(
     alloc: Global,
     text: &mut String,
@@ -41,7 +41,7 @@ fn push_map(
     }
 }
 
-/// Says what is wrong with the map in a file: whether anything is.
+/// Says what is wrong with the map in a file. Answers whether anything is.
 pub(crate) fn push_map_file<R: Files + AllocGlobal>(
     rt: &R,
     text: &mut String,
@@ -53,7 +53,7 @@ pub(crate) fn push_map_file<R: Files + AllocGlobal>(
     }
 }
 
-/// Says what is wrong with a map of a folder, if it is there: whether it is, and whether anything is wrong with it.
+/// Says what is wrong with a map of a folder, if it is there. Answers whether it is there, and whether anything is wrong with it.
 fn push_there<R: Files + AllocGlobal>(
     rt: &R,
     text: &mut String,
@@ -68,7 +68,7 @@ fn push_there<R: Files + AllocGlobal>(
     }
 }
 
-/// Says that no map is in a folder.
+/// Says that a folder has no map.
 fn push_none(text: &mut String, folder: &str) -> Result<(), AllocError> {
     let shown = Shown::all(folder);
     write!(
@@ -77,7 +77,7 @@ fn push_none(text: &mut String, folder: &str) -> Result<(), AllocError> {
     )
 }
 
-/// Says what is wrong with the first map of a folder with which something is, or that none is there: whether anything was said.
+/// Says what is wrong with the first bad map of a folder, or that the folder has none. Answers whether anything was said.
 pub(crate) fn push_maps<R: Files + AllocGlobal>(
     rt: &R,
     text: &mut String,

@@ -1,16 +1,15 @@
-//! If a source's labels and instructions are: a reader of the maps that `tools/assemble --map` writes, and what they say of an address.
+//! Maps, which say at which addresses a source's labels and instructions are. This file reads what `tools/assemble --map` writes, and finds what a
+//! map says of an address.
 
 ghost use Rattle.std.specs.Prelude.{◌≡◌, ◌++◌, ◌<◌, ◌≤◌, ◌∷◌, ◌==◌, false, true, if◌then◌else◌, Some, None, Ok, IfErr, IfOk, IfSome, OnOk, length, option_copied, position, string_bytes};
-ghost use Rattle.std.specs.List.{list_all, slice_split};
-ghost use Rattle.std.specs.Option.{option_map};
-ghost use Rattle.std.specs.Str.Parse.{digits_value};
+ghost use Rattle.tp_views.specs.Lower.{list_all, slice_split, option_map, digits_value};
 ghost use Rattle.tp_views.specs.Maps.{IsMapFault, address_of, after_line, counts, has_line, is_address, is_hex_digit, is_labelled, is_name, is_nearer, is_of_number, is_place, is_plain, is_text, label_in, label_part, least, line_row, nearest, parts_behind, read_map, row_if, row_seen, rows_seen, spot_text};
 
 use crate::parts::Part::{Number, Text};
 use crate::parts::push_parts;
 use std::alloc::{AllocError, Global};
 
-/// A line of a map: an address, the label that is there if it is the line of one, and the source's file and line, as `send.asm:12`.
+/// A line of a map: an address, the label there if the line is a label's, and the source's file and line, such as `send.asm:12`.
 #[derive(Clone, Copy)]
 pub struct MapRow<'a> {
     pub address: u32,
@@ -24,7 +23,7 @@ const HEXADECIMAL: u32 = 16;
 /// Why a text wasn't read as a map.
 #[derive(Clone, Copy)]
 pub enum MapFault {
-    /// The line with this number, counted from 1, is no line of a map.
+    /// This line, counted from 1, isn't one of a map.
     Line(u64),
     /// Out of memory.
     Memory,
@@ -49,7 +48,7 @@ fn is_address(word: &[u8]) -> bool
     word.len() == 8 && has_hex_digits(word)
 }
 
-/// The address that a word spells, if it spells one.
+/// Gives the address that a word spells; `None` if it spells none.
 pub(crate) fn address_in(word: &[u8]) -> Option<u32>
     ensures { result ≡ (if is_address word.now then Some (digits_value 16 word.now) else None) }
 {
@@ -65,7 +64,7 @@ pub(crate) fn address_in(word: &[u8]) -> Option<u32>
     }
 }
 
-/// Whether a byte is none that a text for scripts would have to spell otherwise.
+/// Whether a byte can be in a text for scripts as it is.
 fn is_plain(byte: u8) -> bool
     ensures { result ≡ is_plain byte }
 {
@@ -78,7 +77,7 @@ fn has_plain_bytes(bytes: &[u8]) -> bool
     bytes.iter().all(|byte| is_plain(*byte))
 }
 
-/// Bytes as text, if they are UTF-8 and each of them is plain.
+/// Gives bytes as text, if they are UTF-8 and each byte is plain; else `None`.
 fn text_in(bytes: &[u8]) -> Option<&str>
     ensures { option_copied result ≡ (if is_text bytes.now then Some bytes.now else None) }
 {
@@ -91,7 +90,7 @@ fn text_in(bytes: &[u8]) -> Option<&str>
     }
 }
 
-/// The name that a word is, if it is one.
+/// Gives the name that a word is; `None` if it is none.
 fn name_in(word: &[u8]) -> Option<&str>
     ensures { option_copied result ≡ (if is_name word.now then Some word.now else None) }
 {
@@ -101,7 +100,7 @@ fn name_in(word: &[u8]) -> Option<&str>
     text_in(word)
 }
 
-/// Whether a byte goes on with the number of a line, or begins it.
+/// Whether a byte begins the number of a line, or continues it.
 fn is_of_number(is_colon: bool, is_number: bool, byte: u8) -> bool
     ensures { result ≡ is_of_number is_colon is_number byte }
 {
@@ -120,7 +119,7 @@ fn has_line(place: &[u8]) -> bool
     is_number
 }
 
-/// The source's file and line that bytes name, if they name one.
+/// Gives the source's file and line that bytes name; `None` if they name none.
 fn place_in(bytes: &[u8]) -> Option<&str>
     ensures { option_copied result ≡ (if is_place bytes.now then Some bytes.now else None) }
 {
@@ -130,7 +129,7 @@ fn place_in(bytes: &[u8]) -> Option<&str>
     text_in(bytes)
 }
 
-/// The label that a name is; `-` is none.
+/// Gives the label that a name is; `None` for `-`.
 fn label_in(name: &str) -> Option<&str>
     ensures { option_copied result ≡ label_in name.now }
 {
@@ -141,7 +140,7 @@ fn label_in(name: &str) -> Option<&str>
     }
 }
 
-/// The row of these words, if they are those of one.
+/// Gives the row of these words; `None` if they aren't those of a row.
 fn row_of<'a>(word: &[u8], name: &'a [u8], place: &'a [u8]) -> Option<MapRow<'a>>
     ensures { option_map row_seen result ≡ row_if word.now name.now place.now }
 {
@@ -162,7 +161,7 @@ fn place_of(byte: u8, bytes: &[u8]) -> Option<usize>
     bytes.iter().position(|other| *other == byte)
 }
 
-/// The row that a line is, if it is one.
+/// Gives the row that a line is; `None` if it isn't one.
 fn row_in(line: &[u8]) -> Option<MapRow<'_>>
     ensures { option_map row_seen result ≡ line_row line.now }
 {
@@ -174,7 +173,7 @@ fn row_in(line: &[u8]) -> Option<MapRow<'_>>
     row_of(&line[..8], &rest[..at], &rest[at + 1..])
 }
 
-/// The first line of a text, and what is after its end if it has one.
+/// Gives the first line of a text, and what comes after its end, if it has an end.
 fn first_line(text: &[u8]) -> (&[u8], Option<&[u8]>)
     ensures cut { slice_split (λ byte. byte == 10) text.now ≡ result.0.now ∷ parts_behind (option_copied result.1) }
     ensures shorter { IfSome result.1 (λ rest. length rest.now < length text.now) }
@@ -185,7 +184,7 @@ fn first_line(text: &[u8]) -> (&[u8], Option<&[u8]>)
     }
 }
 
-/// One more line, whose number is counted from 1.
+/// Adds a line, with its number counted from 1. Fails with that number if the line isn't one of a map.
 fn add_line<'a>(rows: &mut Vec<MapRow<'a>>, number: u64, line: &'a [u8]) -> Result<(), MapFault>
     ensures ok { OnOk result (after_line (rows_seen rows.old.items) number line.now ≡ Ok (rows_seen rows.new.items)) }
     ensures err { IfErr result (IsMapFault (after_line (rows_seen rows.old.items) number line.now)) }
@@ -202,7 +201,7 @@ fn add_line<'a>(rows: &mut Vec<MapRow<'a>>, number: u64, line: &'a [u8]) -> Resu
     Ok(())
 }
 
-/// Reads a map: a line for each label and each instruction of a source. Of several lines that are none of a map the first one is told.
+/// Reads a map: a line for each label and each instruction of a source. Fails with the first line that isn't one of a map.
 pub fn read_map(alloc: Global, text: &[u8]) -> Result<Vec<MapRow<'_>>, MapFault>
     ensures ok { IfOk result (λ rows. read_map text.now ≡ Ok (rows_seen rows.items)) }
     ensures err { IfErr result (IsMapFault (read_map text.now)) }
@@ -218,14 +217,14 @@ pub fn read_map(alloc: Global, text: &[u8]) -> Result<Vec<MapRow<'_>>, MapFault>
     Ok(rows)
 }
 
-/// Whether a row counts: each one does, or those of labels alone.
+/// Whether a row counts: all do, or only those of labels.
 fn counts(of_labels: bool, row: &MapRow<'_>) -> bool
     ensures { result ≡ counts of_labels (row_seen row.now) }
 {
     !of_labels || row.label.is_some()
 }
 
-/// The address of a row that was found; 0 if none was.
+/// Gives the address of a row that was found; 0 if none was.
 fn least(found: &Option<MapRow<'_>>) -> u32
     ensures { result ≡ least (option_map row_seen found.now) }
 {
@@ -235,7 +234,7 @@ fn least(found: &Option<MapRow<'_>>) -> u32
     }
 }
 
-/// Whether a row counts, and is as near below an address as the one that was found, or nearer.
+/// Whether a row counts, and is at or below an address, and no further from it than the row that was found.
 fn is_nearer(found: &Option<MapRow<'_>>, of_labels: bool, address: u32, row: &MapRow<'_>) -> bool
     ensures is { result ≡ is_nearer (option_map row_seen found.now) of_labels address (row_seen row.now) }
     ensures below { result ≡ true → row.now.address ≤ address }
@@ -243,7 +242,7 @@ fn is_nearer(found: &Option<MapRow<'_>>, of_labels: bool, address: u32, row: &Ma
     counts(of_labels, row) && least(found) <= row.address && row.address <= address
 }
 
-/// The row that counts and is the nearest one at or below an address, of several at one address the last.
+/// Finds the row that counts and is the nearest at or below an address; the last one if several are at one address.
 pub(crate) fn nearest<'a>(rows: &[MapRow<'a>], of_labels: bool, address: u32) -> Option<MapRow<'a>>
     ensures is { option_map row_seen result ≡ nearest of_labels address (rows_seen rows.now) }
     ensures below { IfSome result (λ row. row.address ≤ address) }
@@ -267,7 +266,7 @@ fn is_labelled(label: &str, row: &MapRow<'_>) -> bool
     }
 }
 
-/// Where a label is; of several with one name the first.
+/// Gives the address of a label; that of the first one if several have this name.
 pub fn address_of(rows: &[MapRow<'_>], label: &str) -> Option<u32>
     ensures { result ≡ address_of label.now (rows_seen rows.now) }
 {
@@ -297,8 +296,8 @@ fn push_label(text: &mut String, label: &Option<MapRow<'_>>, address: u32) -> Re
     )
 }
 
-/// Appends what a map says of an address after these words, as ` send+3 (send.asm:12)`. A map with no row at or below it says nothing, and
-/// nothing is appended then.
+/// Appends what a map says of an address after these words, such as ` send+3 (send.asm:12)`. If the map has no row at or below the address, nothing
+/// is appended.
 pub fn push_spot(
     text: &mut String,
     words: &str,

@@ -24,7 +24,7 @@ pub(crate) fn push_image_rule(
     Ok(true)
 }
 
-/// Says which rule an image breaks, where it breaks one: whether it does.
+/// Says which rule an image breaks. Answers whether it breaks one.
 fn push_image(
     alloc: Global,
     text: &mut String,
@@ -38,7 +38,7 @@ fn push_image(
     }
 }
 
-/// Says why the image in a file isn't read, or which rule it breaks: whether anything was said.
+/// Says why the image in a file can't be read, or which rule it breaks. Answers whether anything was said.
 pub(crate) fn push_image_file<R: Files + AllocGlobal>(
     rt: &R,
     text: &mut String,
@@ -51,7 +51,7 @@ pub(crate) fn push_image_file<R: Files + AllocGlobal>(
     }
 }
 
-/// Says what is wrong with the image of a node: whether anything is.
+/// Says what is wrong with the image of a node. Answers whether anything is.
 fn push_node<R: Files + AllocGlobal>(
     rt: &R,
     text: &mut String,
@@ -63,7 +63,7 @@ fn push_node<R: Files + AllocGlobal>(
     push_image_file(rt, text, path.as_str(), Some(pages))
 }
 
-/// Says what is wrong with the first image that can't be on a new device: whether anything is.
+/// Says what is wrong with the first image that a new device can't have. Answers whether there is one.
 fn push_images<R: Files + AllocGlobal>(
     rt: &R,
     text: &mut String,
@@ -78,7 +78,7 @@ fn push_images<R: Files + AllocGlobal>(
     Ok(false)
 }
 
-/// Says that an area is too small for a topology, if it is: whether it is. One that nobody asked for isn't.
+/// Says that an area is too small for a topology. Answers whether it is; by default it isn't.
 fn push_small(
     text: &mut String,
     topology: &Topology,
@@ -98,7 +98,7 @@ fn push_small(
     Ok(true)
 }
 
-/// Says what is wrong with the images of a topology, or the area that is asked for: whether anything is.
+/// Says what is wrong with the images of a topology, or with the area that is asked for. Answers whether anything is.
 fn push_named<R: Files + AllocGlobal>(
     rt: &R,
     text: &mut String,
@@ -112,7 +112,7 @@ fn push_named<R: Files + AllocGlobal>(
     push_small(text, &named.topology, area)
 }
 
-/// Says what is wrong with the text of a topology, its images or the area that is asked for: whether anything is.
+/// Says what is wrong with the text of a topology, its images, or the area that is asked for. Answers whether anything is.
 fn push_text<R: Files + AllocGlobal>(
     rt: &R,
     text: &mut String,
@@ -129,7 +129,7 @@ fn push_text<R: Files + AllocGlobal>(
     Ok(true)
 }
 
-/// Says what is wrong with a topology, its images or the area that is asked for: whether anything is.
+/// Says what is wrong with a topology, its images, or the area that is asked for. Answers whether anything is.
 pub(crate) fn push_network<R: Files + AllocGlobal>(
     rt: &R,
     text: &mut String,

@@ -11,7 +11,7 @@ use std::alloc::AllocError;
 use tp_book::Numbered;
 use tp_model::WireEnd;
 
-/// Appends how many entries and steps a node has made since the checkpoint, which holds that many entries.
+/// Appends how many entries and steps a node has made since the checkpoint, which holds `base` entries.
 fn push_counts_line(
     text: &mut String,
     base: u64,
@@ -205,7 +205,7 @@ fn push_fields(
     push(text, "]}\n")
 }
 
-/// Appends what a node has done since the checkpoint, which holds that many entries: lines, or JSON that ends the node's object.
+/// Appends what a node has done since the checkpoint, which holds `base` entries: as lines, or as JSON that ends the node's object.
 pub(crate) fn push_done(
     text: &mut String,
     json: bool,

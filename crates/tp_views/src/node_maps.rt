@@ -8,7 +8,7 @@ use crate::maps::{MapFault, MapRow, read_map};
 use crate::refusal::{MapFile, Refusal};
 use std::alloc::Global;
 
-/// The maps of a device's nodes: each node's own at its number, and the one of each node whose own says nothing.
+/// The maps of a device's nodes: each node's own at its number, and one for all nodes whose own says nothing.
 #[derive(Drop)]
 pub struct NodeMaps<'a> {
     pub own: Vec<Vec<MapRow<'a>>>,
@@ -16,7 +16,7 @@ pub struct NodeMaps<'a> {
 }
 
 impl<'a> NodeMaps<'a> {
-    /// No map.
+    /// Gives no maps.
     pub fn none(alloc: Global) -> NodeMaps<'a>
         ensures { maps_seen result ≡ no_maps }
     {
@@ -26,7 +26,7 @@ impl<'a> NodeMaps<'a> {
         }
     }
 
-    /// The rows of a node's map.
+    /// Gives the rows of a node's map.
     pub(crate) fn of(&self, node: usize) -> &[MapRow<'a>]
         ensures { rows_seen result.now ≡ rows_of (maps_seen self.now) node }
     {
@@ -39,7 +39,7 @@ impl<'a> NodeMaps<'a> {
     }
 }
 
-/// Why the map in a file isn't read.
+/// Gives why the map in a file can't be read.
 fn refusal_of(file: MapFile, fault: MapFault) -> Refusal
     ensures { result ≡ refusal_of file fault }
 {
@@ -64,7 +64,7 @@ pub fn read_rows<'a>(
     }
 }
 
-/// Reads the maps of nodes, each one at its node's number.
+/// Reads the maps of nodes, each at its node's number.
 fn read_own<'a>(alloc: Global, texts: &'a [Vec<u8>]) -> Result<Vec<Vec<MapRow<'a>>>, Refusal>
     ensures { IfOk result (λ own. map (λ rows. rows_seen rows.items) own.items ≡ map (λ text. rows_read (read_map text.items)) texts.now) }
 {
@@ -78,8 +78,7 @@ fn read_own<'a>(alloc: Global, texts: &'a [Vec<u8>]) -> Result<Vec<Vec<MapRow<'a
     Ok(own)
 }
 
-/// Reads the maps of a device's nodes: the own ones, each at its node's number, and the one of each node whose own says nothing. An empty text
-/// says nothing.
+/// Reads the maps of a device's nodes: each node's own, at its number, and the one for all nodes whose own says nothing. An empty text says nothing.
 pub fn read_maps<'a>(
     alloc: Global,
     own: &'a [Vec<u8>],

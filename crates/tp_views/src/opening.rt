@@ -1,8 +1,7 @@
 //! `tpnet recover` and `tpnet show`, over any device.
 
 ghost use Rattle.std.specs.Prelude.{◌≡◌, ◌≤◌, IfOk, IsErr, OnOk, string_bytes};
-ghost use Rattle.tp_model.specs.Opening.{verdict};
-ghost use Rattle.tp_recover.specs.Reading.{LeavesNothingNew};
+ghost use Rattle.tp_views.specs.Lower.{verdict, LeavesNothingNew};
 ghost use Rattle.tp_views.specs.Front.{PrintsFront};
 ghost use Rattle.tp_views.specs.Opens.{IsUnwritten, Prints, front_said, recovered, shown};
 
@@ -18,7 +17,7 @@ use std::thread::Threads;
 use tp_disk::Disk;
 use tp_recover::Opened;
 
-/// What is said of an opened device beside its network.
+/// Gives what is said of an opened device besides its network.
 fn front_of(opened: &Opened) -> Front
     ensures { result ≡ front_said opened.now }
 {
@@ -55,7 +54,7 @@ fn recover<D: Disk, O: Write, R: Threads + Sync>(
     put(out, text.as_bytes())
 }
 
-/// What is shown of an opened device: lines, or JSON.
+/// Gives what is shown of an opened device, as lines or as JSON.
 fn text_of(alloc: Global, json: bool, opened: &Opened) -> Result<String, AllocError>
     ensures { IfOk result (λ text. string_bytes text ≡ shown json opened.now) }
 {
@@ -89,9 +88,8 @@ fn show<D: Disk, O: Write>(
     put(out, text.as_bytes())
 }
 
-/// `tpnet recover`, on a device, which `workers` threads open. Answers the program's status: 0 if the device opens and exactly its line
-/// was printed, else 1. Nothing is written to the device, and a crash finds nothing that the call made. Of one that doesn't open nothing
-/// is printed.
+/// `tpnet recover`, on a device, which `workers` threads open. Answers the program's status: 0 if the device opens and exactly its line was printed,
+/// else 1. It writes nothing to the device, so a crash leaves there nothing that this call made. If the device doesn't open, nothing is printed.
 pub fn recover_on<D: Disk, O: Write, E: Write, R: Threads + Sync>(
     rt: &R,
     alloc: Global,
@@ -113,8 +111,8 @@ pub fn recover_on<D: Disk, O: Write, E: Write, R: Threads + Sync>(
     }
 }
 
-/// `tpnet show`, on a device, as lines or as JSON. Answers the program's status: 0 if the device opens and exactly that was printed,
-/// else 1. Nothing is written to the device, and a crash finds nothing that the call made. Of one that doesn't open nothing is printed.
+/// `tpnet show`, on a device, as lines or as JSON. Answers the program's status: 0 if the device opens and exactly that was printed, else 1. It
+/// writes nothing to the device, so a crash leaves there nothing that this call made. If the device doesn't open, nothing is printed.
 pub fn show_on<D: Disk, O: Write, E: Write>(
     alloc: Global,
     disk: &mut D,

@@ -1,4 +1,4 @@
-//! Texts said part by part: a table of what is in them, and one loop that appends it.
+//! Texts as lists of parts, which one loop appends.
 
 ghost use Rattle.std.specs.Prelude.{◌≡◌, ◌++◌, OnOk, string_bytes};
 ghost use Rattle.tp_views.specs.Parts.{part_text, parts_text};
@@ -13,11 +13,11 @@ pub(crate) enum Part<'a> {
     Text(&'a str),
     /// A number, in decimal.
     Number(u64),
-    /// A number that may pass 64 bits, in decimal.
+    /// A number that may be longer than 64 bits, in decimal.
     Large(u128),
-    /// A byte, by two digits in hexadecimal.
+    /// A byte, as two hexadecimal digits.
     Byte(u8),
-    /// A word of a node, by eight digits in hexadecimal.
+    /// A word of a node, as eight hexadecimal digits.
     Word(u32),
 }
 

@@ -1,4 +1,4 @@
-//! What is at a place of a device, in words.
+//! What is at an offset of a device, in words.
 
 use crate::head_rules::{half_at, most_nodes, number_at, pages_at};
 use crate::parts::Part::Number;
@@ -9,18 +9,18 @@ use tp_model::limits::{LINE_BYTES, MAX_NODES, MAX_PORTS, PORT_BYTES};
 use tp_model::{HeadVersion, TwoAreas};
 use tp_trace::byte_in;
 
-/// What the head of a device is called.
+/// The words for the head of a device.
 const HEAD: &[&str] = &["the head of the device, its first ", " bytes"];
 
-/// What the front of an area is called.
+/// The words for the front of an area.
 const FRONT: &[&str] = &[
     "the front of an area: gate, generation, the cut's length, its base and the form",
 ];
 
-/// What the image of a node is called.
+/// The words for the image of a node.
 const IMAGE: &[&str] = &["the image of node ", ", of ", " pages"];
 
-/// What the record of a line is called that a link sends.
+/// The words for the record of a line that a link sends.
 const LINK_LINE: &[&str] = &[
     "the record of line ",
     ", which link ",
@@ -28,16 +28,16 @@ const LINK_LINE: &[&str] = &[
     " sends",
 ];
 
-/// What the record of a line is called that a port sends.
+/// The words for the record of a line that a port sends.
 const PORT_LINE: &[&str] = &["the record of line ", ", which port ", " sends"];
 
-/// What the record of a port is called.
+/// The words for the record of a port.
 const PORT: &[&str] = &["the record of port "];
 
-/// What the journal is called.
+/// The words for the journal.
 const JOURNAL: &[&str] = &["a group of journal entries, or an entry of one"];
 
-/// What a device's head says of the places of its records.
+/// What a device's head says of the offsets of its records.
 #[derive(Clone, Copy)]
 pub(crate) struct Layout {
     pub(crate) version: HeadVersion,
@@ -47,7 +47,7 @@ pub(crate) struct Layout {
     pages: [u16; MAX_NODES],
 }
 
-/// What is at a place.
+/// What is at an offset.
 #[derive(Clone, Copy)]
 pub(crate) enum Record {
     Head,
@@ -58,14 +58,14 @@ pub(crate) enum Record {
     Journal,
 }
 
-/// A record of a device, and where it begins.
+/// A record of a device, and the offset at which it begins.
 #[derive(Clone, Copy)]
 pub(crate) struct Place {
     pub(crate) record: Record,
     pub(crate) start: u64,
 }
 
-/// The layout that a head of a version says.
+/// Gives the layout that a head of this version says.
 pub(crate) fn layout_of(version: HeadVersion, head: &[u8]) -> Layout {
     let mut pages = [0u16; MAX_NODES];
     for (node, count) in pages.iter_mut().enumerate() {
@@ -81,12 +81,12 @@ pub(crate) fn layout_of(version: HeadVersion, head: &[u8]) -> Layout {
 }
 
 impl Layout {
-    /// Where the second area begins.
+    /// Gives the offset at which the second area begins.
     pub(crate) fn second(&self) -> u64 {
         self.areas.first.saturating_add(self.areas.length)
     }
 
-    /// What begins at the place of a damaged record.
+    /// Gives what begins at the offset of a damaged record.
     pub(crate) fn place(&self, at: u64) -> Place {
         let first = self.areas.first;
         if at < first {
@@ -127,7 +127,7 @@ impl Layout {
         self.behind_images(at, next)
     }
 
-    /// What is at `at` after the images, if the records of lines begin at `lines`.
+    /// Gives what is at offset `at`, after the images, if the records of lines begin at `lines`.
     fn behind_images(&self, at: u64, lines: u64) -> Place {
         let line = at.saturating_sub(lines) / LINE_BYTES as u64;
         let count = self.nodes.saturating_mul(4).saturating_add(self.ports);
@@ -153,7 +153,7 @@ impl Layout {
         }
     }
 
-    /// What the record of a line is.
+    /// Gives the words for the record of a line.
     fn line_words(&self, line: u64) -> Rule<3> {
         let links = self.nodes.saturating_mul(4);
         if line < links {
@@ -168,7 +168,7 @@ impl Layout {
         }
     }
 
-    /// What a record is.
+    /// Gives the words for a record.
     pub(crate) fn record_words(&self, record: Record) -> Rule<3> {
         let (words, first, second) = match record {
             Record::Line(line) => return self.line_words(line),

@@ -7,6 +7,7 @@ ghost use Rattle.tp_views.specs.Placing.{LacksPlace, place_in, place_of, range_o
 use crate::maps::{MapRow, address_in, address_of};
 use crate::refusal::Refusal;
 use crate::stops::{Range, Stops};
+use tp_words::TraceLines;
 
 /// The address of a place: eight hexadecimal digits, or a label of the map.
 fn place_in(rows: &[MapRow<'_>], text: &str) -> Option<u32>
@@ -45,14 +46,16 @@ fn range_of(count: u32, from: Option<u32>) -> Option<Range>
     }
 }
 
-/// Where a trace stops: before the instruction at the place `until`, and after a change of `count` bytes from the place `watch` on. It refuses a place
-/// that is neither an address nor a label of the map.
+/// Where a trace that prints these lines stops: before the instruction at the place `until`, and after a change of `count` bytes from the place `watch`
+/// on. It refuses a place that is neither an address nor a label of the map.
 pub fn stops_at(
+    lines: TraceLines,
     rows: &[MapRow<'_>],
     until: Option<&str>,
     watch: Option<&str>,
     count: u32,
 ) -> Result<Stops, Refusal>
+    ensures lines { IfOk result (λ stops. stops.lines ≡ lines) }
     ensures until { IfOk result (λ stops. stops.until ≡ place_of (rows_seen rows.now) (option_copied until.entry)) }
     ensures watch { IfOk result (λ stops. stops.watch ≡ range_of count (place_of (rows_seen rows.now) (option_copied watch.entry))) }
     ensures refused { IfErr result (λ refusal. LacksPlace (rows_seen rows.now) (option_copied until.entry) refusal ⊎ LacksPlace (rows_seen rows.now) (option_copied watch.entry) refusal) }
@@ -60,6 +63,7 @@ pub fn stops_at(
     let until = place_of(rows, until)?;
     let from = place_of(rows, watch)?;
     Ok(Stops {
+        lines,
         until,
         watch: range_of(count, from),
     })

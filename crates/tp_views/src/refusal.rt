@@ -1,4 +1,4 @@
-//! Why a command was not done.
+//! Why a command wasn't done.
 
 use std::fmt;
 use tp_area::FormatFault;
@@ -6,14 +6,14 @@ use tp_model::NetFault;
 use tp_recover::Unopened;
 use tp_turn::TryFault;
 
-/// A file of a map.
+/// Which file a map is in.
 #[derive(Clone, Copy)]
 pub enum MapFile {
-    /// The one that was named.
+    /// The file that was typed.
     Named,
-    /// That of a node, in the folder that was named.
+    /// The file of this node, in the folder that was typed.
     Node(usize),
-    /// That of each node that has none of its own, in the folder that was named.
+    /// The file of all nodes without one of their own, in the folder that was typed.
     All,
 }
 
@@ -27,7 +27,7 @@ impl fmt::Display for MapFile {
     }
 }
 
-/// The program then ends with status 1 and this name on standard error.
+/// Why a command wasn't done. The program then ends with status 1, and this name on standard error.
 #[derive(Clone, Copy)]
 pub enum Refusal {
     /// The node of the image wasn't tried.
@@ -40,19 +40,19 @@ pub enum Refusal {
     Opening(Unopened),
     /// A file can't be read.
     ReadFailed,
-    /// The device's file is there already, if it has to be new.
+    /// The device's file must be new, and is there already.
     DeviceExists,
-    /// What was to be written couldn't be.
+    /// What was to be written couldn't be written.
     DeviceFailed,
     /// Another process holds the device.
     InUse,
     /// Out of memory.
     Memory,
-    /// Another process writes the device so fast that no moment of it could be read.
+    /// Another process writes the device so fast that it couldn't be read as it was at one moment.
     Busy,
     /// What was typed as a place is neither an address nor a label of the map.
     NoPlace,
-    /// The line of a map with this number, counted from 1, is none of one.
+    /// This line of a map, counted from 1, isn't one of a map.
     BadMap(MapFile, u64),
 }
 

@@ -40,7 +40,7 @@ fn push_number(
     )
 }
 
-/// Appends where a processor is, and what its map says of that.
+/// Appends the addresses at which a processor is, and what its map says of them.
 fn push_pointers(
     text: &mut String,
     rows: &[MapRow<'_>],
@@ -234,7 +234,7 @@ fn push_node(
     push_inputs(text, inputs)
 }
 
-/// The lines of a node, by its pages, its processor and its ends.
+/// Gives the lines of a node, by its pages, its processor and its ends.
 fn node_lines(
     alloc: Global,
     rows: &[MapRow<'_>],
@@ -251,7 +251,7 @@ fn node_lines(
     Ok(text)
 }
 
-/// All that is printed of a node, which its image spells; its map has these rows.
+/// Gives all that is printed of the node in an image. `rows` are its map's.
 pub(crate) fn node_text(
     alloc: Global,
     rows: &[MapRow<'_>],

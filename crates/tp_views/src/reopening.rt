@@ -1,4 +1,4 @@
-//! Why a device's file isn't opened: it is opened again.
+//! Why a device's file can't be opened: it is opened again to find out.
 
 use crate::damage::push_fault;
 use crate::looking::{is_special, push_file};
@@ -24,7 +24,7 @@ fn push_failed_read<F: FileExt + OpenFile + Drop>(
     }
 }
 
-/// Says why a device's file wasn't opened, which was checked again.
+/// Says why a device's file wasn't opened, which was opened again.
 #[inline(never)]
 fn push_unopened<F: FileExt + OpenFile + Drop>(
     alloc: Global,
@@ -44,7 +44,7 @@ fn push_unopened<F: FileExt + OpenFile + Drop>(
     }
 }
 
-/// Says that no moment of a device could be read.
+/// Says that the device couldn't be read as it was at one moment.
 fn push_changed(text: &mut String, device: &str) -> Result<(), AllocError> {
     let shown = Shown::all(device);
     write!(
@@ -53,7 +53,7 @@ fn push_changed(text: &mut String, device: &str) -> Result<(), AllocError> {
     )
 }
 
-/// Opens a device's file, and says why it wasn't opened, if it isn't.
+/// Opens a device's file, and says why if that fails.
 #[inline(never)]
 fn reopened<F: FileExt + OpenFile + Drop>(
     alloc: Global,
@@ -70,7 +70,7 @@ fn reopened<F: FileExt + OpenFile + Drop>(
     Ok(None)
 }
 
-/// Says that what is at a path isn't looked at again.
+/// Says that what is at a path isn't opened again.
 fn push_special(text: &mut String, device: &str) -> Result<(), AllocError> {
     let shown = Shown::all(device);
     write!(
@@ -79,7 +79,7 @@ fn push_special(text: &mut String, device: &str) -> Result<(), AllocError> {
     )
 }
 
-/// Opens a device's file again, and says why it wasn't opened, if it doesn't open now either. Another process may be running it.
+/// Opens a device's file again, and says why if that fails. Another process may be running the device.
 pub fn push_opening<R: Files<File = F> + AllocGlobal, F: FileExt + OpenFile + Drop>(
     rt: &R,
     text: &mut String,

@@ -1,19 +1,19 @@
-//! Rules that bytes break, and what is in a device, as words with values between them.
+//! Words with values between them, for rules that are broken and for what is on a device.
 
 use crate::parts::{Part, push_parts};
 use std::alloc::AllocError;
 
-/// A value that says nothing.
+/// A value of no text.
 pub(crate) const NOTHING: Part<'static> = Part::Text("");
 
-/// Words, and the value after each of them. After the last value that is needed the others say nothing.
+/// Words, and a value after each of them. The values after the last one that is needed have no text.
 #[derive(Clone, Copy)]
 pub(crate) struct Rule<const N: usize> {
     pub(crate) words: &'static [&'static str],
     pub(crate) values: [Part<'static>; N],
 }
 
-/// Appends the value with a number from 0 on, if there is one.
+/// Appends the value with this number, counted from 0, if there is one.
 fn push_value(text: &mut String, values: &[Part<'_>], at: usize) -> Result<(), AllocError> {
     match values.get(at) {
         Some(value) => push_parts(text, &[*value]),

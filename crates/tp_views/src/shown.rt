@@ -11,8 +11,8 @@ use tp_book::HostPort;
 use tp_node::{Node, halt_byte};
 use tp_replay::FlatNetwork;
 
-/// What is said of a device beside its network: the bytes of an area, which one is open, its generation, the entries in its cut and in its groups,
-/// and the number of the next entry.
+/// What is said of a device besides its network: how many bytes an area has, and the number of the next entry. Of the open area: which one it is, its
+/// generation, and how many entries are in its cut and in its groups.
 #[derive(Clone, Copy)]
 pub struct Front {
     pub area: u64,
@@ -23,7 +23,7 @@ pub struct Front {
     pub next: u64,
 }
 
-/// The number of an area.
+/// Gives the number of an area.
 pub(crate) fn area_number(second: bool) -> u8
     ensures { result ≡ area_number second }
 {
@@ -139,7 +139,7 @@ fn push_shown(text: &mut String, front: Front, now: &FlatNetwork) -> Result<(), 
     push_ports(text, ports)
 }
 
-/// All that is shown of a device.
+/// Gives all that is shown of a device.
 pub fn shown_text(alloc: Global, front: Front, now: &FlatNetwork) -> Result<String, AllocError>
     ensures { IfOk result (λ text. string_bytes text ≡ shown_text front now.now) }
 {
@@ -148,7 +148,7 @@ pub fn shown_text(alloc: Global, front: Front, now: &FlatNetwork) -> Result<Stri
     Ok(text)
 }
 
-/// What is printed of a device that was recovered.
+/// Gives what is printed of a device that was recovered.
 pub fn next_line(alloc: Global, next: u64) -> Result<String, AllocError>
     ensures { IfOk result (λ text. string_bytes text ≡ next_line next) }
 {

@@ -1,9 +1,9 @@
-//! The line of `tpnet status`, and what a look sees that the next one compares with.
+//! The line of `tpnet status`, and what one check sees that the next one compares with.
 
 ghost use Rattle.std.specs.Prelude.{◌≡◌, ◌++◌, ◌∷◌, ◌<◌, ◌^◌, [], IfOk, OnOk, codes, map, string_bytes};
+ghost use Rattle.tp_node.specs.Standing.{standing};
 ghost use Rattle.tp_views.specs.Status.{IsSeen, bytes_accepted, accepted_before, accepted_part, count_part, front_part, growth_part, halted_or_none, halted_part, halted_parts, journal_part, millis_since, next_before, out_before, out_part, percent, port_before, port_part, port_parts, port_seen, bytes_put_out, entries_room, status_line, steps_part, yes_or_no};
 ghost use Rattle.tp_views.specs.Done.{steps_made};
-ghost use Rattle.tp_node.specs.Standing.{standing};
 
 use crate::done::steps_made;
 use crate::formats::form_name;
@@ -19,14 +19,14 @@ use tp_node::{Node, Standing};
 use tp_recover::{Opened, entries_left};
 use tp_trace::fault_name;
 
-/// What a look sees of a port: how many bytes it has accepted, and how many it has put out.
+/// What a check sees of a port: how many bytes it has accepted, and how many it has put out.
 #[derive(Clone, Copy)]
 pub struct PortSeen {
     accepted: u128,
     out: u128,
 }
 
-/// What a look sees of a device: the time in milliseconds, the number of the next entry, and each port.
+/// What a check sees of a device: the time in milliseconds, the number of the next entry, and each port.
 #[derive(Drop)]
 pub struct Seen {
     at: u64,
@@ -34,7 +34,7 @@ pub struct Seen {
     ports: Vec<PortSeen>,
 }
 
-/// What a count was, and how many milliseconds before.
+/// What a count was before, and how many milliseconds ago.
 #[derive(Clone, Copy)]
 pub(crate) struct Since {
     pub(crate) count: u128,
@@ -66,7 +66,7 @@ fn port_seen(port: &HostPort) -> PortSeen
     }
 }
 
-/// What is seen of the ports.
+/// Gives what a check sees of the ports.
 fn ports_seen(alloc: Global, ports: &[HostPort]) -> Result<Vec<PortSeen>, AllocError>
     ensures { IfOk result (λ seen. seen.items ≡ map (λ port. port_seen port.port) ports.now) }
 {
@@ -77,7 +77,7 @@ fn ports_seen(alloc: Global, ports: &[HostPort]) -> Result<Vec<PortSeen>, AllocE
     Ok(seen)
 }
 
-/// What a look sees of an opened device, at a time in milliseconds.
+/// Gives what a check sees of an opened device, at a time in milliseconds.
 pub(crate) fn seen_of(alloc: Global, at: u64, opened: &Opened) -> Result<Seen, AllocError>
     ensures { IfOk result (λ seen. IsSeen at opened.now seen) }
 {
@@ -89,7 +89,7 @@ pub(crate) fn seen_of(alloc: Global, at: u64, opened: &Opened) -> Result<Seen, A
     })
 }
 
-/// The number of the next entry at the look before.
+/// Gives the number of the next entry at the check before.
 pub(crate) fn next_before(at: u64, before: &Option<Seen>) -> Option<Since>
     ensures { result ≡ next_before at before.now }
 {
@@ -102,7 +102,7 @@ pub(crate) fn next_before(at: u64, before: &Option<Seen>) -> Option<Since>
     }
 }
 
-/// What the look before saw of a port, if it was there.
+/// Gives what the check before saw of a port; `None` if there was no such check or port.
 pub(crate) fn port_before(before: &Option<Seen>, number: usize) -> Option<PortSeen>
     ensures { result ≡ port_before before.now number }
 {
@@ -115,7 +115,7 @@ pub(crate) fn port_before(before: &Option<Seen>, number: usize) -> Option<PortSe
     }
 }
 
-/// How many milliseconds before it was.
+/// How many milliseconds ago the check before was.
 pub(crate) fn millis_since(at: u64, before: &Option<Seen>) -> u64
     ensures { result ≡ millis_since at before.now }
 {
@@ -149,7 +149,7 @@ pub(crate) fn out_before(millis: u64, before: Option<PortSeen>) -> Option<Since>
     }
 }
 
-/// Appends by how much a count grew in a second, where it was seen before.
+/// Appends by how much a count grew in a second, if it was seen before.
 fn push_growth(text: &mut String, now: u128, since: Option<Since>) -> Result<(), AllocError>
     requires { now < 2 ^ 65 }
     ensures { OnOk result (string_bytes text.new ≡ string_bytes text.old ++ growth_part now since) }
@@ -312,7 +312,7 @@ fn push_ports(
     Ok(())
 }
 
-/// Appends why and where a node has halted, if it has.
+/// Appends why a node has halted, and at which address, if it has.
 fn push_halted(text: &mut String, number: usize, standing: Standing) -> Result<(), AllocError>
     ensures { OnOk result (string_bytes text.new ≡ string_bytes text.old ++ halted_part number standing) }
 {
@@ -367,8 +367,8 @@ pub(crate) fn room_of(opened: &Opened) -> u64
     entries_left(journal, 0, opened.base())
 }
 
-/// The line of an opened device: `held` says whether a process holds it, and `before` what a look before saw; it is `at` milliseconds, and
-/// `clock` the seconds since 1970, if the line has the time of day.
+/// Gives the line of an opened device. `held` says whether a process holds it, `at` is the time in milliseconds, and `before` is what the check
+/// before saw. `clock` is the seconds since 1970; with `None` the line has no time of day.
 pub(crate) fn status_text(
     alloc: Global,
     held: bool,

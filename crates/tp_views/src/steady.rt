@@ -1,38 +1,34 @@
-//! Opening a device that another process may be running.
+//! Opening a device that another process may be running. A *look* reads the fronts of both areas. `open_steady` looks, opens the device, and looks
+//! again.
 //!
-//! Such a process writes only the area that doesn't count. A checkpoint closes that area's gate, writes all after it with a generation that is higher
-//! by 1 than the other area's, and opens its gate: from then on it counts. Only the next checkpoint writes the other area anew: it closes its gate
-//! first, and opens it with a generation that is higher by 2. So if an area's gate is open at two moments with one generation, only groups after its
-//! last one were written between them.
+//! Another process that runs the device writes only the area that doesn't count. A checkpoint closes that area's gate, and writes all after it, with
+//! a generation that is one more than the other area's. Then it opens the gate: from then on that area counts. Only the next checkpoint writes the
+//! other area anew: it closes its gate first, and opens it with a generation that is higher by 2. So if an area's gate is open at two moments with
+//! one generation, only groups after its last one were written between them.
 //!
-//! **An area counts at the look before.** If the look after finds its gate and its generation unchanged, no checkpoint wrote into it between the two;
-//! so none opened the other area and then wrote into that one either. What opening read, whichever of the two it took, is what it was from the look
-//! before on, or from when that area was opened on, up to the look after. The gate of groups that are appended meanwhile is opened last, when all
-//! after it, with the next gate closed, is written and synced: what is read up to the first closed gate is whole, and is what was there at the moment
-//! of the last read. So the answer is one of that moment, and a refusal is true of it.
+//! **An area counts at the look before.** Suppose the look after finds its gate and its generation unchanged. Then no checkpoint wrote into it
+//! between the two looks, so none opened the other area and then wrote into that one either. Whichever area opening read, nobody wrote it anew: it is
+//! what it was since the look before, or since a checkpoint opened it, until the look after. Groups may be appended meanwhile, but their gate is
+//! opened last, after all that follows it, with the next gate closed, was written and synced. So what was read up to the first closed gate is whole,
+//! and is what was there at the moment of the last read. The answer is one of that moment, and a refusal is true of it.
 //!
-//! **No area counts at the look before.** While a device is run one area's gate is open at each moment, and the generations of the two are never
-//! equal. A look that reads one front after the other may miss that, if a switch comes between its reads. So a look reads the first area's front
-//! again, and what opening said holds if the look after finds these three fronts. A running device has no such history. If the first front is closed
-//! each time, it is closed at three moments at least, with the second one closed at moments between them. But a gate is closed before one generation
-//! in two spans of time at most: while that is being written, and before it is written anew. If the first front read again is open, it was opened
-//! after its first reading, so it can't be closed before that generation and opened with it once more.
+//! **No area counts at the look before.** While a device is run, one area's gate is open at each moment, and the two generations are never equal. A
+//! look that reads one front after the other may miss that, if a switch comes between its reads. So a look reads the first area's front once more at
+//! its end. What opening said is true if the look after finds these three fronts again, since a running device can't show them twice:
+//! - If the first front is closed each time, it was closed at three moments at least, and the second front was closed at moments between them. But
+//!   before one generation a gate is closed in at most two spans of time: while that generation is written, and before it is written anew.
+//! - If the first front is open when it is read once more, it was opened after its first reading. So it can't be closed again before that generation,
+//!   and opened again with it.
 //!
-//! **No look finds a head**: the device isn't formatted, or its head breaks a rule. No run writes a head, and `format` writes it last, so what
-//! opening said holds if the look after finds none either.
+//! **No look finds a head.** Then the device isn't formatted, or its head breaks a rule. No run writes a head, and `format` writes it last. So what
+//! opening said is true if the look after finds no head either.
 //!
-//! A read of an area's front is taken to be of one moment: of its nine bytes the gate is closed and synced before the others are written. If a file
-//! is formatted anew while it is read, and the new device's front is what the old one's was, that isn't noticed.
+//! A read of an area's front is taken to be of one moment: of its nine bytes, the gate is closed and synced before the others are written. One thing
+//! isn't noticed: a file that is formatted anew while it is read, if the new device's front has the bytes of the old one's.
 
 ghost use Rattle.std.specs.Prelude.{◌≡◌, ◌+◌, ◌≤◌, ◌<◌, ◌^◌, ◌↔◌, IsTrue, IfErr, IfOk};
-ghost use Rattle.tp_area.specs.Fronts.{area_front};
-ghost use Rattle.tp_model.specs.Device.{areas_end};
-ghost use Rattle.tp_model.specs.Disk.{Sync, done};
-ghost use Rattle.tp_model.specs.DiskHistory.{Counts};
-ghost use Rattle.tp_model.specs.Head.{head_of};
-ghost use Rattle.tp_model.specs.Opening.{verdict};
+ghost use Rattle.tp_views.specs.Lower.{area_front, areas_end, Sync, done, Counts, head_of, verdict, has_read, found, ReadAnswer, LeavesAlone, LeavesNothingNew};
 ghost use Rattle.tp_views.specs.Steady.{StayedOpen, CountsStill, OfSteady, counting, front_seen, fronts_in, is_above, look_finds};
-ghost use Rattle.tp_recover.specs.Reading.{has_read, found, ReadAnswer, LeavesAlone, LeavesNothingNew};
 
 use std::alloc::Global;
 use tp_area::{AREA_FRONT_BYTES, AreaFront, area_front, area_start};
@@ -40,11 +36,11 @@ use tp_disk::Disk;
 use tp_model::TwoAreas;
 use tp_recover::{Opened, Unopened, open, read_head};
 
-/// How often a device is opened that another process writes meanwhile.
+/// How many times a device is opened that another process writes meanwhile.
 pub const MAX_TRIES: u32 = 20;
 
-/// What a look finds: the places of the areas, and the fronts of both in the order in which they are read: the first area's, the second one's, and
-/// the first one's again.
+/// What a look finds: the places of the areas, and their fronts in the order of reading: the first area's, the second one's, and the first one's
+/// again.
 #[derive(Clone, Copy, PartialEq, Eq)]
 pub(crate) struct Fronts {
     areas: TwoAreas,
@@ -53,7 +49,7 @@ pub(crate) struct Fronts {
     again: AreaFront,
 }
 
-/// Whether an area counts beside another one.
+/// Whether the first of two areas counts: its gate is open, and the other one's is closed, or has a lower generation.
 fn is_above(one: AreaFront, other: AreaFront) -> bool
     ensures { result ≡ is_above one other }
 {
@@ -61,7 +57,7 @@ fn is_above(one: AreaFront, other: AreaFront) -> bool
 }
 
 impl Fronts {
-    /// Which area counts: whether it is the second one; `None` if no gate is open, or both are with one generation.
+    /// Which area counts: whether it is the second one. It is `None` if no gate is open, or both are open with one generation.
     fn counting(&self) -> Option<bool>
         ensures { result ≡ counting self.now }
     {
@@ -74,7 +70,7 @@ impl Fronts {
         }
     }
 
-    /// The front of an area.
+    /// Gives the front of an area.
     fn front(&self, second: bool) -> AreaFront
         ensures { result ≡ front_seen second self.now }
     {
@@ -127,7 +123,7 @@ fn read_fronts<D: Disk>(disk: &mut D, areas: TwoAreas) -> Result<Fronts, Unopene
     })
 }
 
-/// Looks at a device: finds the fronts of its areas, or none if it has no head, or one that breaks a rule.
+/// Looks at a device: gives the fronts of its areas; `None` if it has no head, or one that breaks a rule.
 pub(crate) fn look<D: Disk>(disk: &mut D) -> Result<Option<Fronts>, Unopened>
     ensures counts { Counts (has_read result) (D.size_of disk.old) (D.size_of disk.new) (D.failures_of disk.old) (D.failures_of disk.new) }
     ensures kept { D.keeps → LeavesAlone result (D.state disk.old).now (D.state disk.new).now }
@@ -145,7 +141,8 @@ pub(crate) fn look<D: Disk>(disk: &mut D) -> Result<Option<Fronts>, Unopened>
     }
 }
 
-/// Whether the area that counted at the look `before` has its front at the look `after`; if none counted, whether both looks found equal fronts.
+/// Whether the area that counted at the look `before` has its gate and generation at the look `after`. If none counted: whether both looks found
+/// equal fronts.
 fn has_stayed(second: Option<bool>, before: Fronts, after: Fronts) -> bool
     ensures { IsTrue result ↔ StayedOpen second before after }
 {
@@ -168,14 +165,14 @@ pub(crate) fn is_still(before: Option<Fronts>, after: Option<Fronts>) -> bool
     }
 }
 
-/// What came of opening a device: the answer is one of a moment, or the device was written so that it may not be.
+/// What came of opening a device. Either the answer is that of one moment, or the device was written meanwhile, so that it may not be.
 #[derive(Drop)]
 pub enum Tried {
     Steady(Result<Opened, Unopened>),
     Changed,
 }
 
-/// Opens a device between two looks. What a call that failed leaves isn't known, so it answers ReadFailed as it is.
+/// Opens a device between two looks. If a call on the device fails, it answers ReadFailed at once, since nothing is known after such a call.
 fn open_once<D: Disk>(alloc: Global, disk: &mut D) -> Tried
     ensures leaves { D.keeps → LeavesNothingNew (D.state disk.old) (D.state disk.new) }
     ensures counts { D.keeps → OfSteady (λ answer. Counts (has_read answer) (D.size_of disk.old) (D.size_of disk.new) (D.failures_of disk.old) (D.failures_of disk.new)) result }
@@ -196,9 +193,9 @@ fn open_once<D: Disk>(alloc: Global, disk: &mut D) -> Tried
     }
 }
 
-/// Opens a device that another process may be running: the answer is what opening it answers of one moment of the call, or `Changed` if no moment
-/// could be read. Of a device that keeps the model, and that no other process writes, it is what opening answers, and never `Changed`. Nothing is
-/// written.
+/// Opens a device that another process may be running. The answer is what opening it would answer at one moment of the call, or `Changed` if it
+/// couldn't be read as it was at one moment. If the device keeps the model and no other process writes it, the answer is that of opening, and never
+/// `Changed`. Nothing is written.
 pub fn open_steady<D: Disk>(alloc: Global, disk: &mut D) -> Tried
     ensures leaves { D.keeps → LeavesNothingNew (D.state disk.old) (D.state disk.new) }
     ensures counts { D.keeps → OfSteady (λ answer. Counts (has_read answer) (D.size_of disk.old) (D.size_of disk.new) (D.failures_of disk.old) (D.failures_of disk.new)) result }

@@ -1,11 +1,7 @@
-//! Opening a device that another process may be running, with a node as it was before an entry.
+//! Opening a device that another process may be running, and giving a node as it was before an entry.
 
 ghost use Rattle.std.specs.Prelude.{◌≡◌, IfOk};
-ghost use Rattle.tp_model.specs.Disk.{Sync, done};
-ghost use Rattle.tp_model.specs.DiskHistory.{Counts};
-ghost use Rattle.tp_model.specs.Opening.{verdict};
-ghost use Rattle.tp_recover.specs.Before.{IsImageOf, node_before};
-ghost use Rattle.tp_recover.specs.Reading.{has_read, ReadAnswer, LeavesAlone, LeavesNothingNew};
+ghost use Rattle.tp_views.specs.Lower.{Sync, done, Counts, verdict, IsImageOf, node_before, has_read, ReadAnswer, LeavesAlone, LeavesNothingNew};
 ghost use Rattle.tp_views.specs.Steady.{IfSteady, OfSteady};
 
 use crate::steady::{MAX_TRIES, Tried, is_still, look};
@@ -41,8 +37,8 @@ fn open_once_before<D: Disk>(
     }
 }
 
-/// Opens a device, as `open_steady` does, and puts into `image` the image of a node as it was before the device's first entry whose number isn't
-/// below `from`; `None` if the node doesn't exist.
+/// Opens a device, as `open_steady` does. Puts into `image` the image of a node as it was before the device's first entry whose number is `from` or
+/// more; `None` if there is no such node.
 pub fn open_steady_before<D: Disk>(
     alloc: Global,
     disk: &mut D,

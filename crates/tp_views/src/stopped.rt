@@ -1,4 +1,4 @@
-//! Which nodes have halted, said after a run or a trial.
+//! Which nodes have halted. It is said after a run or a trial.
 
 use crate::commands::TRY_QUANTUM;
 use std::alloc::Global;
@@ -13,29 +13,28 @@ use tp_stream_files::{Stopped, say_stopped};
 use tp_turn::try_standing;
 use tp_words::Asked;
 
-/// Says of a node that has halted where it did. A failed write is dropped.
+/// Says at which address a node has halted. Ignores a failed write.
 fn say_halted<E: Write>(number: u8, standing: Standing, err: &mut E) {
     if let Standing::Halted { fault, at } = standing {
         say_stopped(err, number, Stopped::Halted { fault, at });
     }
 }
 
-/// Says which of these nodes have halted, and where, a line each.
+/// Says which of these nodes have halted, and at which addresses, a line each.
 fn say_each_halted<E: Write>(nodes: &[Node], err: &mut E) {
     for (node, number) in nodes.iter().zip(0..MAX_NODES as u8) {
         say_halted(number, node.standing(), err);
     }
 }
 
-/// Says of a device that opens which of its nodes have halted. Of one that doesn't open nothing is said.
+/// Says which nodes of a device have halted. If the device doesn't open, it says nothing.
 fn tell_opened<D: Disk, E: Write>(alloc: Global, disk: &mut D, err: &mut E) {
     if let Ok(opened) = open(alloc, disk) {
         say_each_halted(opened.network().nodes(), err);
     }
 }
 
-/// Says of a device that was run which of its nodes have halted: it is opened again, to be read alone. Of one that doesn't open
-/// nothing is said.
+/// Says which nodes of a device that was run have halted: it opens the device again, to be only read. If the device doesn't open, it says nothing.
 fn tell_run<R: Files<File = F> + AllocGlobal, F: FileExt + OpenFile + Drop, E: Write>(
     rt: &R,
     device: &str,
@@ -54,7 +53,7 @@ fn tell_image<E: Write>(alloc: Global, image: &[u8], turns: u32, err: &mut E) {
     }
 }
 
-/// Says of a node that was tried whether it has halted: it is tried again. It says nothing of an image that isn't read, or if memory runs out.
+/// Says whether a node that was tried has halted: it tries the node again. It says nothing if the image can't be read, or if memory runs out.
 fn tell_trial<R: Files + AllocGlobal, E: Write>(rt: &R, image: &str, turns: u32, err: &mut E) {
     if let Ok(bytes) = fs::read(rt, image) {
         tell_image(rt.alloc(), bytes.as_slice(), turns, err);

@@ -1,10 +1,10 @@
-//! Where a trace stops, and what is printed there.
+//! Where a trace of an image stops, and what is printed there.
 
 ghost use Rattle.std.specs.Prelude.{◌≡◌, ◌≤◌, ◌++◌, ◌*◌, ◌/◌, None, IfOk, OnOk, length, string_bytes};
 ghost use Rattle.tp_law_machine.specs.NodeOfBytes.{IsNodeOfBytes};
 ghost use Rattle.tp_views.specs.Maps.{rows_seen};
 ghost use Rattle.tp_views.specs.declared.stops.TheConstants.{WORKSPACE_WORDS};
-ghost use Rattle.tp_views.specs.Stops.{bytes_text, has_stops, is_here, is_until, memory_line, state_if, state_text, steps_line, until_text, watch_text, watched, words_text, workspace_line};
+ghost use Rattle.tp_views.specs.Stops.{bytes_text, has_state, is_here, is_sending, is_until, memory_line, state_if, state_text, steps_line, until_text, watch_text, watched, words_text, workspace_line};
 
 use crate::maps::{MapRow, push_spot};
 use crate::parts::Part::{Byte, Text, Word};
@@ -13,6 +13,7 @@ use crate::registers::push_cpu;
 use std::alloc::{AllocError, Global};
 use tp_node::Node;
 use tp_trace::{cpu_now, instruction_at, memory_of, word_in};
+use tp_words::TraceLines;
 
 /// A range of addresses: the first one, and how many they are.
 #[derive(Clone, Copy)]
@@ -21,9 +22,10 @@ pub struct Range {
     pub count: usize,
 }
 
-/// Where a trace stops before its last step: before the instruction at an address, and after a change of a range.
+/// Where a trace stops before its last step: before the instruction at an address, and after a change of a range. And which of its lines are printed.
 #[derive(Clone, Copy)]
 pub struct Stops {
+    pub lines: TraceLines,
     pub until: Option<u32>,
     pub watch: Option<Range>,
 }
@@ -67,11 +69,21 @@ pub(crate) fn watched(alloc: Global, stops: Stops, node: &mut Node) -> Result<Ve
     }
 }
 
-/// Whether a stop was asked for.
-fn has_stops(stops: Stops) -> bool
-    ensures { result ≡ has_stops stops }
+/// Whether not each line is printed.
+fn is_sending(lines: TraceLines) -> bool
+    ensures { result ≡ is_sending lines }
 {
-    stops.until.is_some() || stops.watch.is_some()
+    match lines {
+        TraceLines::Every => false,
+        TraceLines::Sending => true,
+    }
+}
+
+/// Whether the state is printed in the end: a stop was asked for, or not each line is printed.
+fn has_state(stops: Stops) -> bool
+    ensures { result ≡ has_state stops }
+{
+    stops.until.is_some() || stops.watch.is_some() || is_sending(stops.lines)
 }
 
 /// Appends words of a workspace.
@@ -144,7 +156,7 @@ fn push_state(
     push_range(alloc, text, stops.watch, node)
 }
 
-/// Appends the state of a node if a stop was asked for.
+/// Appends the state of a node if it is printed.
 pub(crate) fn push_state_if(
     alloc: Global,
     text: &mut String,
@@ -157,7 +169,7 @@ pub(crate) fn push_state_if(
     ensures text { OnOk result (string_bytes text.new ≡ string_bytes text.old ++ state_if (rows_seen rows.now) stops node.old.live) }
     ensures same { node.new ≡ node.old }
 {
-    if has_stops(stops) {
+    if has_state(stops) {
         push_state(alloc, text, rows, stops, node)
     } else {
         Ok(())
@@ -201,11 +213,11 @@ pub(crate) fn push_watch(
     push_state(alloc, text, rows, stops, node)
 }
 
-/// Appends that a trace stopped after the steps that were asked for, if another stop was asked for.
+/// Appends that a trace stopped after the steps that were asked for, if the state is printed.
 pub(crate) fn push_steps(text: &mut String, stops: Stops) -> Result<(), AllocError>
     ensures { OnOk result (string_bytes text.new ≡ string_bytes text.old ++ steps_line stops) }
 {
-    if has_stops(stops) {
+    if has_state(stops) {
         text.push_str("stop steps\n")
     } else {
         Ok(())

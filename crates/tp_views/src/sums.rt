@@ -1,4 +1,4 @@
-//! What those add up to that wait: what nobody in the network can end, once more.
+//! What all the waiting adds up to: the waits that nobody in the network can end, said once more.
 
 ghost use Rattle.std.specs.Prelude.{◌≡◌, ◌++◌, ◌<◌, ◌≤◌, OnOk, length, string_bytes};
 ghost use Rattle.tp_model.specs.declared.limits.TheConstants.{MAX_NODES};
@@ -13,7 +13,7 @@ use crate::why::Reason;
 use std::alloc::AllocError;
 use tp_model::WireEnd;
 
-/// Why a process still waits.
+/// Gives the words for why a process still waits.
 pub(crate) fn why_name(why: Reason) -> &'static str
     ensures { result.now ≡ why_name why }
 {
@@ -76,7 +76,7 @@ fn push_line(text: &mut String, wait: &Wait) -> Result<(), AllocError>
     push_parts(text, &[Text("\n")])
 }
 
-/// Appends what the waiting at an end adds up to, in a network with that many nodes.
+/// Appends what the waiting at an end adds up to, in a network of `nodes` nodes.
 fn push_sum(text: &mut String, nodes: usize, end: &Option<Wait>) -> Result<(), AllocError>
     requires { nodes ≤ MAX_NODES }
     ensures { OnOk result (string_bytes text.new ≡ string_bytes text.old ++ sum_part nodes end.now) }

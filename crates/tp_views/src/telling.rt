@@ -1,9 +1,7 @@
 //! `tpnet status`: one check of a device.
 
 ghost use Rattle.std.specs.Prelude.{◌≡◌, ◌⊎◌, IfErr, IfOk, IsErr, OnOk};
-ghost use Rattle.std.specs.Io.KnownBytes.{Appends};
-ghost use Rattle.tp_model.specs.Opening.{verdict};
-ghost use Rattle.tp_recover.specs.Reading.{LeavesNothingNew};
+ghost use Rattle.tp_views.specs.Lower.{Appends, verdict, LeavesNothingNew};
 ghost use Rattle.tp_views.specs.Front.{AppendsFront, PrintsFront};
 ghost use Rattle.tp_views.specs.Looks.{StatusTells};
 ghost use Rattle.tp_views.specs.Opens.{IsUnwritten};
@@ -85,10 +83,15 @@ fn look<D: Disk, O: Write>(
     tell(alloc, &opened, held, at, clock, before, json, out)
 }
 
-/// One look of `tpnet status` at a device: `held` says whether another process holds it, `at` is the time in milliseconds, `clock` the seconds
-/// since 1970, if the time is printed, `before` what the look before saw, and `json` whether it is printed as JSON. Answers what was seen, where the device opens and exactly its line was
-/// printed, else the status 1, and why is said then. Nothing is written to the device, and a crash finds nothing that the call made. Of one
-/// that doesn't open nothing is printed.
+/// Makes one check of a device for `tpnet status`. Answers what it saw, if the device opens and exactly its line was printed; else it says why, and
+/// fails with the status 1. It writes nothing to the device, so a crash leaves there nothing that this call made. If the device doesn't open, nothing
+/// is printed.
+///
+/// - `held`: whether another process holds the device
+/// - `at`: the time in milliseconds
+/// - `clock`: the seconds since 1970, if the time is to be printed
+/// - `before`: what the check before saw
+/// - `json`: whether to print JSON
 pub fn status_on<D: Disk, O: Write, E: Write>(
     alloc: Global,
     disk: &mut D,

@@ -1,4 +1,4 @@
-//! The time of day, as a line of `status` begins with it, and the time for scripts.
+//! The time of day at the beginning of a line of `status`, and the time for scripts.
 
 ghost use Rattle.std.specs.Prelude.{◌≡◌, ◌++◌, OnOk, string_bytes};
 ghost use Rattle.tp_views.specs.TimeOfDay.{day_part, time_field, time_part};

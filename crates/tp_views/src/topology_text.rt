@@ -1,4 +1,4 @@
-//! Where and why a text says no topology.
+//! At which line a text says no topology, and why.
 
 use crate::line_rules::{broken_rule, missing};
 use std::alloc::{AllocError, Global};
@@ -8,13 +8,13 @@ use tp_model::limits::{MAX_NODES, MAX_PORTS};
 use tp_net::Topology;
 use tp_words::Shown;
 
-/// What is shown in place of a line that isn't text.
+/// Shown in place of a line that isn't text.
 const NO_TEXT: &str = "(no text: is this file the topology? --help has the order of the words)";
 
 /// How many characters of a line are shown at most.
 const MOST_SHOWN: usize = 200;
 
-/// The first lines of a text, as many as `count`, without the end of the last one.
+/// Gives the first `count` lines of a text, without the end of the last one.
 fn first_lines(text: &[u8], count: usize) -> &[u8] {
     let mut seen = 0usize;
     for (at, byte) in text.iter().enumerate() {
@@ -28,7 +28,7 @@ fn first_lines(text: &[u8], count: usize) -> &[u8] {
     text
 }
 
-/// The lines of a text above the one with a number from 1 on, without the end of the last one.
+/// Gives the lines of a text above this one, counted from 1, without the end of the last one.
 fn lines_above(text: &[u8], number: usize) -> &[u8] {
     match number {
         0 | 1 => &[],
@@ -36,7 +36,7 @@ fn lines_above(text: &[u8], number: usize) -> &[u8] {
     }
 }
 
-/// Whether the first lines of a text say `fault`, as many as `count`.
+/// Whether the first `count` lines of a text say `fault`.
 fn says_fault(alloc: Global, text: &[u8], count: usize, fault: NetFault) -> bool {
     match Topology::read(alloc, first_lines(text, count)) {
         Err(found) => found == fault,
@@ -55,7 +55,7 @@ fn ended_lines(text: &[u8]) -> usize {
     count
 }
 
-/// Where a text says `fault` first, as the number of a line from 1 on. Lines after it change nothing, so halving finds it.
+/// Gives the number of the first line at which a text says `fault`, counted from 1. It is found by halving, since later lines change nothing.
 fn line_of_fault(alloc: Global, text: &[u8], fault: NetFault) -> usize {
     let (mut without, mut with) = (0usize, ended_lines(text).saturating_add(1));
     for _ in 0..usize::BITS {
@@ -73,7 +73,7 @@ fn line_of_fault(alloc: Global, text: &[u8], fault: NetFault) -> usize {
     with
 }
 
-/// The line of a text with a number from 1 on, without its end, which may be a CR and an LF.
+/// Gives this line of a text, counted from 1, without its end, which may be a CR and an LF.
 fn nth_line(text: &[u8], number: usize) -> &[u8] {
     let line = match text
         .split(|byte| *byte == b'\n')
@@ -88,7 +88,7 @@ fn nth_line(text: &[u8], number: usize) -> &[u8] {
     }
 }
 
-/// The number of the line of a text that says `fault`; 0 if it is none of a line.
+/// Gives the number of the line at which a text says `fault`; 0 if it is no line's fault.
 fn faulty_line(alloc: Global, text: &[u8], fault: NetFault) -> usize {
     match fault {
         NetFault::Syntax(line) => line as usize,
@@ -99,7 +99,7 @@ fn faulty_line(alloc: Global, text: &[u8], fault: NetFault) -> usize {
     }
 }
 
-/// Appends how many nodes and ports there may be.
+/// Appends how many nodes and ports there may be at most.
 fn push_most(text: &mut String) -> Result<(), AllocError> {
     write!(
         text,
@@ -117,7 +117,7 @@ fn push_broken(text: &mut String, above: &[u8], line: &[u8]) -> Result<(), Alloc
     text.push_str(broken.rule)
 }
 
-/// Appends which rule the topology of a text breaks, at its line with a number.
+/// Appends which rule the topology of a text breaks, at this line.
 fn push_reason(
     text: &mut String,
     bytes: &[u8],
@@ -140,13 +140,13 @@ fn push_reason(
     }
 }
 
-/// Appends a line, or a word of one, of a long one its first characters.
+/// Appends a line, or a word of one; if it is long, only its first characters.
 fn push_line(text: &mut String, line: &str) -> Result<(), AllocError> {
     let shown = Shown::front(line, MOST_SHOWN);
     write!(text, "{shown}")
 }
 
-/// Appends where the fault of a text at a path is: at its line with a number from 1 on, or, if that is 0, in all of it.
+/// Appends at which line the text at a path has its fault, counted from 1; 0 stands for all of the text.
 fn push_where(text: &mut String, path: &str, number: usize, line: &[u8]) -> Result<(), AllocError> {
     let shown = Shown::all(path);
     if number == 0 {
@@ -157,7 +157,7 @@ fn push_where(text: &mut String, path: &str, number: usize, line: &[u8]) -> Resu
     text.push_str("\n  ")
 }
 
-/// Says where and why a text says no topology.
+/// Says at which line a text says no topology, and why.
 pub(crate) fn push_topology(
     alloc: Global,
     text: &mut String,

@@ -1,9 +1,7 @@
-//! `tpnet trace`, on an image: the steps of a node alone, and what comes in at its links, a line each.
+//! `tpnet trace`, on an image, and `tpnet try`, by steps: the steps of a node alone, and what comes in at its links, a line each.
 
 ghost use Rattle.std.specs.Prelude.{◌≡◌, ◌≤◌, None, IfErr, IfOk, OnOk, map, option_copied};
-ghost use Rattle.std.specs.Io.KnownBytes.{Appends};
-ghost use Rattle.tp_model.specs.Image.{node_of};
-ghost use Rattle.tp_trace.specs.Others.{IsLinked, attended};
+ghost use Rattle.tp_views.specs.Lower.{Appends, node_of, IsLinked, attended};
 ghost use Rattle.tp_views.specs.Front.{AppendsFront};
 ghost use Rattle.tp_views.specs.Maps.{rows_seen};
 ghost use Rattle.tp_views.specs.Traced.{IsLineFault, Passes, ReadsNode, TraceAnswer, Traces, TracesFront, last_text, moment, node_traced, traced};
@@ -122,7 +120,7 @@ fn trace<O: Write>(
 
 /// `tpnet trace`, on the bytes of the image, whose links may be at work. `others` has for each link the bytes that its other end sends; `None`:
 /// nobody is there. Answers the program's status: 0 if exactly the lines of the node's first steps and of the tokens that came in were
-/// written, as many as `steps` at most, with what is printed where it stops; else 1. Whatever the status, only a first part of them was.
+/// written, as far as they are printed and as many as `steps` at most, with what is printed where it stops; else 1. Whatever the status, only a first part of them was.
 /// It refuses bytes that are no image, and writes nothing then.
 pub fn trace_on<O: Write, E: Write>(
     alloc: Global,

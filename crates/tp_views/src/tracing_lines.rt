@@ -1,12 +1,9 @@
 //! What happens at a node that is traced, and at its links, as lines.
 
 ghost use Rattle.std.specs.Prelude.{◌≡◌, ◌++◌, [], None, IfOk, OnOk, bytes_eq, string_bytes};
-ghost use Rattle.tp_law_machine.specs.NodeOfBytes.{IsNodeOfBytes};
-ghost use Rattle.tp_node.specs.Standing.{standing};
-ghost use Rattle.tp_trace.specs.Lines.{stop_line};
-ghost use Rattle.tp_trace.specs.Others.{IsLinked, attended};
+ghost use Rattle.tp_views.specs.Lower.{IsNodeOfBytes, standing, stop_line, IsLinked, attended};
 ghost use Rattle.tp_views.specs.Maps.{rows_seen};
-ghost use Rattle.tp_views.specs.Traced.{Happens, PassesText, came_line, ended_text, event, last_line, last_text, moment, moment_by, step_line, text_behind};
+ghost use Rattle.tp_views.specs.Traced.{Happens, PassesText, came_line, ended_text, event, is_byte_out, is_printed, last_line, last_text, moment, moment_by, printed, step_line, text_behind};
 ghost use Rattle.tp_views.specs.Stops.{watched};
 
 use crate::maps::{MapRow, push_spot};
@@ -14,8 +11,10 @@ use crate::parts::Part::{Number, Text};
 use crate::parts::push_parts;
 use crate::stops::{Stops, is_until, push_state_if, push_steps, push_until, push_watch, watched};
 use std::alloc::{AllocError, Global};
+use tp_model::Token;
 use tp_node::{Node, Runs};
 use tp_trace::{Heard, Linked, Seen, come, push_step, push_stop, push_take, trace_step};
+use tp_words::TraceLines;
 
 /// Appends the line of a step.
 pub(crate) fn push_step_line(
@@ -31,6 +30,43 @@ pub(crate) fn push_step_line(
     text.push_str("\n")
 }
 
+/// Whether a byte leaves.
+fn is_byte_out(sent: Option<(u8, Token)>) -> bool
+    ensures { result ≡ is_byte_out sent }
+{
+    match sent {
+        Some((_, Token::Data(_))) => true,
+        Some((_, Token::Ack | Token::Marker)) | None => false,
+    }
+}
+
+/// Whether a line in which that leaves is printed.
+fn is_printed(lines: TraceLines, sent: Option<(u8, Token)>) -> bool
+    ensures { result ≡ is_printed lines sent }
+{
+    match lines {
+        TraceLines::Every => true,
+        TraceLines::Sending => is_byte_out(sent),
+    }
+}
+
+/// Appends the line of a step, if it is printed.
+fn push_made(
+    text: &mut String,
+    rows: &[MapRow<'_>],
+    lines: TraceLines,
+    number: u64,
+    seen: Seen,
+) -> Result<(), AllocError>
+    ensures { OnOk result (string_bytes text.new ≡ string_bytes text.old ++ printed lines seen.sent (step_line (rows_seen rows.now) number seen)) }
+{
+    if is_printed(lines, seen.sent) {
+        push_step_line(text, rows, number, seen)
+    } else {
+        Ok(())
+    }
+}
+
 /// Appends the line of a token that comes in.
 fn push_came(text: &mut String, number: u64, heard: Heard) -> Result<(), AllocError>
     ensures { OnOk result (string_bytes text.new ≡ string_bytes text.old ++ came_line number heard) }
@@ -39,25 +75,42 @@ fn push_came(text: &mut String, number: u64, heard: Heard) -> Result<(), AllocEr
     push_take(text, heard)
 }
 
-/// Has a node take what comes in next, or else make a step, and appends the line of that. Answers whether there was anything.
+/// Appends the line of a token that comes in, if it is printed.
+fn push_heard(
+    text: &mut String,
+    lines: TraceLines,
+    number: u64,
+    heard: Heard,
+) -> Result<(), AllocError>
+    ensures { OnOk result (string_bytes text.new ≡ string_bytes text.old ++ printed lines heard.sent (came_line number heard)) }
+{
+    if is_printed(lines, heard.sent) {
+        push_came(text, number, heard)
+    } else {
+        Ok(())
+    }
+}
+
+/// Has a node take what comes in next, or else make a step, and appends the line of that, if it is printed. Answers whether there was anything.
 fn push_event(
     text: &mut String,
     rows: &[MapRow<'_>],
+    lines: TraceLines,
     number: u64,
     linked: &mut Linked<'_>,
     runs: &mut Runs,
 ) -> Result<bool, AllocError>
     requires { IsLinked linked.old }
-    ensures happens { IfOk result (λ did. Happens did (event (rows_seen rows.now) number (attended linked.old)) (attended linked.old) (attended linked.new) (string_bytes text.old) (string_bytes text.new)) }
+    ensures happens { IfOk result (λ did. Happens did (event lines (rows_seen rows.now) number (attended linked.old)) (attended linked.old) (attended linked.new) (string_bytes text.old) (string_bytes text.new)) }
     ensures linked { IsLinked linked.new }
 {
     if let Some(heard) = come(linked) {
-        push_came(text, number, heard)?;
+        push_heard(text, lines, number, heard)?;
         return Ok(true);
     }
     match trace_step(&mut linked.node, runs) {
         Some(seen) => {
-            push_step_line(text, rows, number, seen)?;
+            push_made(text, rows, lines, number, seen)?;
             Ok(true)
         }
         None => Ok(false),
@@ -123,11 +176,11 @@ fn push_happening(
     runs: &mut Runs,
 ) -> Result<bool, AllocError>
     requires { IsLinked linked.old }
-    ensures passes { IfOk result (λ goes. PassesText (moment_by (rows_seen rows.now) stops linked.old.node.live (event (rows_seen rows.now) number (attended linked.old))) goes (attended linked.new) (string_bytes text.old) (string_bytes text.new)) }
+    ensures passes { IfOk result (λ goes. PassesText (moment_by (rows_seen rows.now) stops linked.old.node.live (event stops.lines (rows_seen rows.now) number (attended linked.old))) goes (attended linked.new) (string_bytes text.old) (string_bytes text.new)) }
     ensures linked { IsLinked linked.new }
 {
     let before = watched(alloc, stops, &mut linked.node)?;
-    if push_event(text, rows, number, linked, runs)? {
+    if push_event(text, rows, stops.lines, number, linked, runs)? {
         return push_behind(
             alloc,
             text,
@@ -172,10 +225,10 @@ fn push_last_line(
     runs: &mut Runs,
 ) -> Result<(), AllocError>
     requires { IsLinked linked.old }
-    ensures { OnOk result (string_bytes text.new ≡ string_bytes text.old ++ last_line stops linked.old.node.live (event (rows_seen rows.now) 0 (attended linked.old))) }
+    ensures { OnOk result (string_bytes text.new ≡ string_bytes text.old ++ last_line stops linked.old.node.live (event stops.lines (rows_seen rows.now) 0 (attended linked.old))) }
 {
     let mut line = String::new(alloc);
-    if push_event(&mut line, rows, 0, linked, runs)? {
+    if push_event(&mut line, rows, stops.lines, 0, linked, runs)? {
         push_steps(text, stops)
     } else {
         push_standing(text, &mut linked.node)

@@ -1,9 +1,8 @@
 //! The processes that wait at the links of a network's nodes, each with what it waits for. All that `waits` prints goes over these.
 
 ghost use Rattle.std.specs.Prelude.{◌≡◌, ◌<◌, ◌≤◌, length};
-ghost use Rattle.tp_model.specs.declared.limits.TheConstants.{MAX_NODES};
+ghost use Rattle.tp_views.specs.Lower.{MAX_NODES, list_any};
 ghost use Rattle.tp_views.specs.Scene.{seen_in};
-ghost use Rattle.std.specs.List.{list_any};
 ghost use Rattle.tp_views.specs.Waiting.{end_wait, has_inner_end, is_first, is_inner, is_told, link_waits, links_of, node_waits_inside, side_of, waits_inside};
 
 use crate::scene::{NodeSeen, Scene};

@@ -16,13 +16,13 @@ pub enum Reason {
     UnderWay,
     /// The node at the other end has halted.
     Halted,
-    /// That node, or the one that waits, has something left to do.
+    /// The node at the other end, or the one that waits, has something left to do.
     Runs,
-    /// It sends, and so does the other end of the link.
+    /// The process sends, and the other end of the link sends, too.
     BothSend,
-    /// It inputs, and so does the other end of the link.
+    /// The process inputs, and the other end of the link inputs, too.
     BothInput,
-    /// All processes of that node wait elsewhere.
+    /// All processes of the other node wait elsewhere.
     Elsewhere,
     /// The port has no room.
     Full,
@@ -32,7 +32,7 @@ pub enum Reason {
     NoWire,
 }
 
-/// The process that waits at the end of a link, of the ends of links 0 to 3.
+/// Gives the process that waits at the end of a link, of the ends of links 0 to 3; `None` if none does.
 fn waiter_at(ends: &[Option<Waiter>], link: u8) -> Option<Waiter>
     ensures { result ≡ waiter_at ends.now link }
 {
@@ -42,7 +42,7 @@ fn waiter_at(ends: &[Option<Waiter>], link: u8) -> Option<Waiter>
     }
 }
 
-/// The process that waits at an end of a node's link, if one does. In a node that has halted none does: none of its will ever run.
+/// Gives the process that waits at an end of a node's link; `None` if none does. In a node that has halted none waits, since none will ever run.
 pub(crate) fn waiting_at(own: &NodeSeen, sends: bool, link: u8) -> Option<Waiter>
     ensures { result ≡ waiting_at own.now sends link }
 {
@@ -55,7 +55,7 @@ pub(crate) fn waiting_at(own: &NodeSeen, sends: bool, link: u8) -> Option<Waiter
     }
 }
 
-/// The token that comes next on a line.
+/// Gives the token that comes next on a line.
 fn front_at(scene: &Scene, line: usize) -> Option<Token>
     ensures { result ≡ front_at (seen_in scene.now) line }
 {
@@ -102,7 +102,7 @@ fn has_input(scene: &Scene, port: u8) -> bool
     }
 }
 
-/// Why a process of a node that rests waits for another one that rests, at that node's link.
+/// Gives why a process of a node that rests waits for another node that rests, at that node's link.
 fn stuck_why(sends: bool, other: &NodeSeen, link: u8) -> Reason
     ensures { result ≡ stuck_why sends other.now link }
 {
@@ -119,7 +119,7 @@ fn stuck_why(sends: bool, other: &NodeSeen, link: u8) -> Reason
     }
 }
 
-/// Why a process of a node waits for another node, at that node's link, if nothing is on their lines.
+/// Gives why a process of a node waits for another node, at that node's link, if nothing is on their lines.
 fn other_why(sends: bool, own: &NodeSeen, other: &NodeSeen, link: u8) -> Reason
     ensures { result ≡ other_why sends own.now other.now link }
 {
@@ -132,7 +132,7 @@ fn other_why(sends: bool, own: &NodeSeen, other: &NodeSeen, link: u8) -> Reason
     }
 }
 
-/// Why a process of a node waits at an end whose line this is, if the other end is a node's link.
+/// Gives why a process of a node waits at an end, if the other end is a node's link; `line` is the end's.
 fn link_why(scene: &Scene, sends: bool, own: &NodeSeen, line: usize, node: u8, link: u8) -> Reason
     ensures { result ≡ link_why (seen_in scene.now) sends own.now line node link }
 {
@@ -145,7 +145,7 @@ fn link_why(scene: &Scene, sends: bool, own: &NodeSeen, line: usize, node: u8, l
     }
 }
 
-/// Why a process waits at an end whose line this is, if the other end is a port.
+/// Gives why a process waits at an end, if the other end is a port; `line` is the end's.
 fn port_why(scene: &Scene, sends: bool, line: usize, port: u8) -> Reason
     ensures { result ≡ port_why (seen_in scene.now) sends line port }
 {
@@ -158,7 +158,7 @@ fn port_why(scene: &Scene, sends: bool, line: usize, port: u8) -> Reason
     }
 }
 
-/// Why a process of a node waits at the end whose line this is.
+/// Gives why a process of a node waits at an end; `line` is the end's.
 pub(crate) fn why(scene: &Scene, sends: bool, own: &NodeSeen, line: usize) -> Reason
     ensures { result ≡ why (seen_in scene.now) sends own.now line }
 {

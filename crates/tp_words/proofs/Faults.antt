@@ -1,9 +1,7 @@
 -- What is wrong with ends.
 use Rattle.std.proofs.Common.{◌≡◌, ◌<◌, ◌≤◌, ℕ, Bool, true, false, Some, None, refl, inl, inr, nat_lt}
-use Rattle.std.proofs.lemmas.Bool.{cases_lt}
-use Rattle.std.proofs.lemmas.Bool.Decides.{Decides-ltb}
 use Rattle.std.specs.Prelude.{if◌then◌else◌}
-use Rattle.tp_stream_files.specs.declared.ends.Ends.{Ends}
+use Rattle.tp_words.proofs.Lower.{cases_lt, Decides-ltb, Ends}
 use Rattle.tp_words.specs.Ends.{fault_at, input_count, places}
 
 small : (a : ℕ) (p : Bool) → (1 < a → p ≡ true) → p ≡ false → a ≤ 1

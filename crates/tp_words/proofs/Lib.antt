@@ -1,3 +1,4 @@
+pub mod Lower
 pub mod Faults
 pub mod OfEnds
 pub mod OfNumbers

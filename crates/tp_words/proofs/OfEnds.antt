@@ -1,13 +1,7 @@
 -- What is wrong with ends is never told as what is wrong with one of the texts that were typed.
 use Rattle.std.proofs.Common.{◌≡◌, ℕ, Bool, true, false, Option, Some, None, List, [], ◌∷◌, refl, sym, subst, nat_lt}
-use Rattle.std.specs.Option.{option_or}
 use Rattle.std.specs.Prelude.{if◌then◌else◌}
-use Rattle.std.specs.declared.alloc.Global.{Global}
-use Rattle.std.specs.declared.string.String.{String}
-use Rattle.clap.specs.declared.parser.matches.ArgMatches.{ArgMatches}
-use Rattle.tp_stream_files.specs.Named.{standard_port}
-use Rattle.tp_stream_files.specs.declared.ends.Ends.{Ends}
-use Rattle.tp_stream_files.specs.declared.ends.PortNumber.{PortNumber}
+use Rattle.tp_words.proofs.Lower.{option_or, Global, String, ArgMatches, standard_port, Ends, PortNumber}
 use Rattle.tp_words.specs.Ends.{IsFaultOf, IsFirstFault, IsRefused, WereTyped, fault_at, fault_behind, input_count, is_port, places, reader_fault, second_reader, standard_count}
 use Rattle.tp_words.specs.declared.stream_ends.EndsFault.{EndsFault}
 use Rattle.tp_words.specs.declared.stream_ends.EndsFault.TheVariants.{File, Have, Discard, TwoOutputs, TwoInputs, TwoStandard, NoReader, Missing, Memory}

@@ -1,9 +1,6 @@
 -- What was typed for options that take numbers.
 use Rattle.std.proofs.Common.{◌≡◌, ◌≢◌, ◌<◌, ◌^◌, ◌∙◌, ℕ, List, Option, Some, IsSomeAnd, arith, sym, subst}
-use Rattle.std.proofs.lemmas.Fmt.{decimal_injective}
-use Rattle.std.specs.Fmt.{decimal}
-use Rattle.std.specs.declared.alloc.Global.{Global}
-use Rattle.std.specs.declared.string.String.{String}
+use Rattle.tp_words.proofs.Lower.{decimal_injective, decimal, Global, String}
 use Rattle.tp_words.specs.Given.{given}
 use Rattle.tp_words.specs.Numbers.{IsUnfit, NumberOption, Takes}
 

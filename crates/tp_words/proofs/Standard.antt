@@ -1,15 +1,7 @@
 -- The port that lives on standard output, or on standard input.
 use Rattle.std.proofs.Common.{◌≡◌, ◌<◌, ◌≤◌, ◌+◌, ℕ, zero, suc, Bool, true, false, Option, Some, List, [], ◌∷◌, ◌++◌, Contains, All, length, get_or, map, arith, refl, sym, ap, subst, ◌∙◌, string_bytes, cond}
-use Rattle.std.proofs.lemmas.Fmt.{decimal_digit}
-use Rattle.std.proofs.lemmas.List.{length-map}
-use Rattle.std.proofs.lemmas.List.Elements.{All-head, All-tail}
-use Rattle.std.proofs.lemmas.List.Sums.{sum_by-cons}
-use Rattle.std.proofs.lemmas.Slice.Eq.{bytes_eq-Decides}
-use Rattle.std.specs.Fmt.{decimal}
 use Rattle.std.specs.Prelude.{if◌then◌else◌}
-use Rattle.tp_model.specs.declared.limits.TheConstants.{MAX_PORTS}
-use Rattle.tp_stream_files.specs.Named.{is_standard, standard_port}
-use Rattle.tp_stream_files.specs.declared.ends.PortFile.{PortFile}
+use Rattle.tp_words.proofs.Lower.{decimal_digit, length-map, All-head, All-tail, sum_by-cons, bytes_eq-Decides, decimal, MAX_PORTS, is_standard, standard_port, PortFile}
 use Rattle.tp_words.specs.Ends.{IsFile, file_text, standard_count}
 use Rattle.tp_words.specs.Standard.{IsStandard, standard_text}
 use Rattle.tp_words.proofs.Texts.{rests}

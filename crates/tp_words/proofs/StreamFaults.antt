@@ -1,9 +1,6 @@
 -- Why the words of a stream ask for nothing.
 use Rattle.std.proofs.Common.{◌≡◌, ◌≤◌, List, [], ◌∷◌, length, inl, inr, sym, subst, Result, Ok, Err, IfErr}
-use Rattle.std.specs.Result.{IsErrAnd}
-use Rattle.std.specs.declared.alloc.Global.{Global}
-use Rattle.std.specs.declared.string.String.{String}
-use Rattle.clap.specs.declared.parser.matches.ArgMatches.{ArgMatches}
+use Rattle.tp_words.proofs.Lower.{IsErrAnd, Global, String, ArgMatches}
 use Rattle.tp_words.specs.declared.arg_fault.ArgFault.{ArgFault}
 use Rattle.tp_words.specs.declared.arg_fault.ArgFault.TheVariants.{Words, Range, Size, Number, Order, Links, TwoInputs, Many, Stream, BothExplain, Missing, Memory}
 use Rattle.tp_words.specs.declared.args.TheConstants.{MAX_WORDS}

@@ -1,17 +1,10 @@
 -- Texts that were typed, one by one.
 use Rattle.std.proofs.Common.{◌≡◌, ◌≢◌, ◌<◌, ◌+◌, ◌⊎◌, ℕ, zero, suc, List, [], ◌∷◌, ◌++◌, Any, length, map, take, get_or, arith, refl, ap, sym, subst, ◌∙◌, inl, inr, Bool, true, false, Option, Some, None, IfSome, drop, Bor, nat_lt, ◌^◌}
-use Rattle.std.proofs.lemmas.List.{get_or-map, length-map}
-use Rattle.std.proofs.lemmas.Fmt.{decimal_digit, decimal_injective}
-use Rattle.std.proofs.lemmas.Str.Pattern.{IsSplitOnceResult, split_after}
-use Rattle.std.specs.Fmt.{decimal}
-use Rattle.std.specs.Option.{MatchOption}
 use Rattle.std.specs.Prelude.{if◌then◌else◌}
-use Rattle.std.proofs.lemmas.Bool.Decides.{Decides-ltb}
-use Rattle.tp_model.specs.declared.limits.TheConstants.{MAX_PORTS}
+use Rattle.tp_words.proofs.Lower.{get_or-map, length-map, decimal_digit, decimal_injective, IsSplitOnceResult, split_after, decimal, MatchOption, Decides-ltb, MAX_PORTS, map_last, map_more}
 use Rattle.tp_words.specs.Ends.{IsNoPort}
 use Rattle.tp_words.specs.declared.stream_ends.EndsFault.{EndsFault}
 use Rattle.tp_words.specs.declared.stream_ends.EndsFault.TheVariants.{Memory}
-use Rattle.tp_stream_files.proofs.Pushed.{map_last, map_more}
 
 -- one of the texts isn't such as the option takes
 pub some_refused : {T : Type 0} (own : EndsFault) (IsNone : List ℕ → Type 0) (f : T → List ℕ) (texts : List T) (i : ℕ) (d : T) (fault : EndsFault) → i < length texts

@@ -1,10 +1,6 @@
 -- The values of a command line.
 use Rattle.std.specs.Prelude.{◌≡◌, ◌≤◌, ◌<◌, ◌^◌, ℕ, false, true, List, Option, Some, None, IfSome, codes, string_bytes}
-use Rattle.std.specs.Fmt.{decimal}
-use Rattle.std.specs.Option.{option_map}
-use Rattle.std.specs.declared.alloc.Global.{Global}
-use Rattle.std.specs.declared.string.String.{String}
-use Rattle.tp_model.specs.declared.limits.TheConstants.{MAX_STEPS}
+use Rattle.tp_words.specs.Lower.{decimal, option_map, Global, String, MAX_STEPS}
 use Rattle.tp_words.specs.declared.args.Asked.{Asked}
 use Rattle.tp_words.specs.declared.args.Asked.TheVariants.{Help, Try, Trace, TraceDevice, Format, Run as Runs, Compact, Recover, Show, Status, Check, View as Views}
 use Rattle.tp_words.specs.declared.args.Run.{Run}
@@ -15,7 +11,7 @@ use Rattle.tp_words.specs.declared.views.View.{View}
 use Rattle.tp_words.specs.declared.views.View.TheVariants.{Node, Image, Journal, Pending, Outputs, NodeJson, PendingJson, OutputsJson, Waits, WaitsJson, WaitsDot}
 use Rattle.tp_words.specs.Given.{given, has_flag, IsGivenOr}
 use Rattle.tp_words.specs.Size.{IsArea}
-use Rattle.tp_words.specs.TraceArgs.{IsImageTrace, IsTypedImage}
+use Rattle.tp_words.specs.TraceArgs.{HasNoTurns, IsImageTrace, IsTypedImage}
 use Rattle.tp_words.specs.Typed.{has_word, was_typed}
 
 -- a snapshot begins after a number of entries, or a device is checked again after a number of seconds, if one is given
@@ -117,7 +113,7 @@ IsTypedRun words run = (has_word (string_bytes run.device) words ≡ true)
 abbrev pub WasTyped : List (String Global) → Asked → Type 0
 WasTyped words (Help text) = Unit {0}
 WasTyped words (Try image turns) = (has_word (string_bytes image) words ≡ true) × (given (codes "turns") words ≡ Some (decimal turns))
-WasTyped words (Trace trace) = IsTypedImage words trace
+WasTyped words (Trace trace) = IsTypedImage words trace × HasNoTurns words trace.lines
 WasTyped words (TraceDevice device part maps) = (has_word (string_bytes device) words ≡ true) × IsTypedTrace words part
     × (given (codes "map") words ≡ option_map string_bytes maps)
 WasTyped words (Format new) = (has_word (string_bytes new.device) words ≡ true) × (has_word (string_bytes new.topology) words ≡ true)

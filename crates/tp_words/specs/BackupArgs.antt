@@ -1,7 +1,6 @@
 -- The words of a command line of `backup`.
 use Rattle.std.specs.Prelude.{◌≡◌, true, List, [], ◌∷◌, codes, string_bytes}
-use Rattle.std.specs.declared.alloc.Global.{Global}
-use Rattle.std.specs.declared.string.String.{String}
+use Rattle.tp_words.specs.Lower.{Global, String}
 use Rattle.tp_words.specs.declared.backup_args.Backup.{Backup}
 use Rattle.tp_words.specs.Places.{places}
 use Rattle.tp_words.specs.Typed.{has_word}

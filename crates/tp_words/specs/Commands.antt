@@ -1,7 +1,6 @@
 -- What a command line asks for, whatever its command.
 use Rattle.std.specs.Prelude.{◌≡◌, true, List, [], ◌∷◌, codes, string_bytes}
-use Rattle.std.specs.declared.alloc.Global.{Global}
-use Rattle.std.specs.declared.string.String.{String}
+use Rattle.tp_words.specs.Lower.{Global, String}
 use Rattle.tp_words.specs.declared.command.Command.{Command}
 use Rattle.tp_words.specs.declared.command.Command.TheVariants.{Stream, Stop, Backup, Other}
 use Rattle.tp_words.specs.declared.stream_args.StreamRun.{StreamRun}

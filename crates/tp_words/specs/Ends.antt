@@ -1,15 +1,6 @@
 -- Ends of a stream's ports that were typed.
 use Rattle.std.specs.Prelude.{◌≡◌, ◌≢◌, ◌⊎◌, ◌<◌, ◌≤◌, ◌^◌, ◌==◌, ◌+◌, ℕ, Bool, false, List, [], ◌∷◌, ◌++◌, Option, Some, None, All, Any, map, length, count_by, if◌then◌else◌, nat_lt, codes, string_bytes}
-use Rattle.std.specs.Fmt.{decimal}
-use Rattle.std.specs.Option.{option_or}
-use Rattle.std.specs.declared.alloc.Global.{Global}
-use Rattle.std.specs.declared.string.String.{String}
-use Rattle.clap.specs.declared.parser.matches.ArgMatches.{ArgMatches}
-use Rattle.tp_model.specs.declared.limits.TheConstants.{MAX_PORTS}
-use Rattle.tp_stream_files.specs.Named.{is_standard, standard_port}
-use Rattle.tp_stream_files.specs.declared.ends.Ends.{Ends}
-use Rattle.tp_stream_files.specs.declared.ends.PortFile.{PortFile}
-use Rattle.tp_stream_files.specs.declared.ends.PortNumber.{PortNumber}
+use Rattle.tp_words.specs.Lower.{decimal, option_or, Global, String, ArgMatches, MAX_PORTS, is_standard, standard_port, Ends, PortFile, PortNumber}
 use Rattle.tp_words.specs.Given.{all_given, found_texts}
 use Rattle.tp_words.specs.declared.stream_ends.EndsFault.{EndsFault}
 use Rattle.tp_words.specs.declared.stream_ends.EndsFault.TheVariants.{File, Have, Discard, TwoOutputs, TwoInputs, TwoStandard, NoReader, Missing, Memory}

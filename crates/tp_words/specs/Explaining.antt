@@ -1,7 +1,6 @@
 -- When more is said of what a command did.
 use Rattle.std.specs.Prelude.{◌≡◌, ◌⊎◌, Bool, true, false, if◌then◌else◌, List, Option, Some, None, codes}
-use Rattle.std.specs.declared.alloc.Global.{Global}
-use Rattle.std.specs.declared.string.String.{String}
+use Rattle.tp_words.specs.Lower.{Global, String}
 use Rattle.tp_words.specs.declared.command.Command.{Command}
 use Rattle.tp_words.specs.declared.command.Command.TheVariants.{Other}
 use Rattle.tp_words.specs.declared.args.Asked.TheVariants.{Help}

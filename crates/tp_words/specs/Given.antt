@@ -1,13 +1,6 @@
 -- What was typed for an option.
 use Rattle.std.specs.Prelude.{◌≡◌, ◌++◌, ◌||◌, ℕ, Bool, false, List, [], ◌∷◌, Option, Some, None, if◌then◌else◌, length, take, drop, codes, string_bytes, nat_eq}
-use Rattle.std.specs.Cmp.Lexicographic.{pointwise}
-use Rattle.std.specs.Fmt.{decimal}
-use Rattle.std.specs.List.{cons_option}
-use Rattle.std.specs.Option.{option_map, option_or, unwrap_or}
-use Rattle.std.specs.declared.alloc.Global.{Global}
-use Rattle.std.specs.declared.string.String.{String}
-use Rattle.clap.specs.Words.{found_of, matched_of, raw_values}
-use Rattle.clap.specs.declared.parser.matches.ArgMatches.{ArgMatches}
+use Rattle.tp_words.specs.Lower.{pointwise, decimal, cons_option, option_map, option_or, unwrap_or, Global, String, found_of, matched_of, raw_values, ArgMatches}
 use Rattle.tp_words.specs.Typed.{is_word}
 
 -- what is after an ending, if the bytes begin with it

@@ -1,3 +1,4 @@
+pub mod Lower
 pub mod Typed
 pub mod Given
 pub mod Places

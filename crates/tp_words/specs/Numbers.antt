@@ -1,10 +1,6 @@
 -- Options that take numbers, and why what was typed for one of them is refused.
 use Rattle.std.specs.Prelude.{◌≡◌, ◌≢◌, ◌⊎◌, ◌≤◌, ℕ, List, [], ◌∷◌, IfSome, IsSomeAnd, codes}
-use Rattle.std.specs.Fmt.{decimal}
-use Rattle.std.specs.declared.alloc.Global.{Global}
-use Rattle.std.specs.declared.string.String.{String}
-use Rattle.clap.specs.Words.{first_value, found_of}
-use Rattle.clap.specs.declared.parser.matches.ArgMatches.{ArgMatches}
+use Rattle.tp_words.specs.Lower.{decimal, Global, String, first_value, found_of, ArgMatches}
 use Rattle.tp_words.specs.declared.arg_fault.ArgFault.{ArgFault}
 use Rattle.tp_words.specs.declared.arg_fault.ArgFault.TheVariants.{Range, Missing, Memory}
 use Rattle.tp_words.specs.declared.args.TheConstants.{MAX_WAIT}

@@ -1,12 +1,6 @@
 -- The words of a command line that are neither options nor their values: the command, and then what it is about, in order.
 use Rattle.std.specs.Prelude.{◌≡◌, Bool, ℕ, true, false, List, [], ◌∷◌, Option, Some, None, if◌then◌else◌, codes, string_bytes, nat_eq}
-use Rattle.std.specs.Borrow.{Bor}
-use Rattle.std.specs.Fmt.{decimal}
-use Rattle.std.specs.List.{list_any, starts_with}
-use Rattle.std.specs.declared.alloc.Global.{Global}
-use Rattle.std.specs.declared.string.String.{String}
-use Rattle.clap.specs.Words.{first_value, found_of}
-use Rattle.clap.specs.declared.parser.matches.ArgMatches.{ArgMatches}
+use Rattle.tp_words.specs.Lower.{Bor, decimal, list_any, starts_with, Global, String, first_value, found_of, ArgMatches}
 use Rattle.tp_words.specs.declared.args.Asked.{Asked}
 use Rattle.tp_words.specs.declared.args.Asked.TheVariants.{Help, Try, Trace, TraceDevice, Format, Run as Runs, Compact, Recover, Show, Status, Check, View as Views}
 use Rattle.tp_words.specs.declared.args.NewDevice.{NewDevice}
@@ -15,6 +9,7 @@ use Rattle.tp_words.specs.declared.views.View.{View}
 use Rattle.tp_words.specs.declared.views.View.TheVariants.{Node, Image, Journal, Pending, Outputs, NodeJson, PendingJson, OutputsJson, Waits, WaitsJson, WaitsDot}
 use Rattle.tp_words.specs.Given.{given, has_flag}
 use Rattle.tp_words.specs.Size.{IsSizeOf}
+use Rattle.tp_words.specs.TraceArgs.{lines_command}
 use Rattle.tp_words.specs.Typed.{is_word}
 
 -- the word is an option
@@ -107,7 +102,7 @@ HasViewFlag words _ = Unit {0}
 abbrev pub HasPlaces : List (String Global) → Asked → Type 0
 HasPlaces words (Help text) = Unit {0}
 HasPlaces words (Try image turns) = places words ≡ codes "try" ∷ string_bytes image ∷ []
-HasPlaces words (Trace trace) = places words ≡ codes "trace" ∷ string_bytes trace.image ∷ []
+HasPlaces words (Trace trace) = places words ≡ lines_command trace.lines ∷ string_bytes trace.image ∷ []
 HasPlaces words (TraceDevice device part maps) = places words ≡ codes "trace" ∷ string_bytes device ∷ decimal part.node ∷ []
 HasPlaces words (Format new) = HasFormatPlaces words new × (new.only_new ≡ has_flag (codes "--new") words)
 HasPlaces words (Runs run) = (places words ≡ codes "run" ∷ string_bytes run.device ∷ []) × (has_flag (codes "--stream") words ≡ false)

@@ -1,10 +1,6 @@
 -- The numbers of a command line of `run`, and those of them that a stream has, too.
 use Rattle.std.specs.Prelude.{◌≡◌, ◌≤◌, ◌<◌, ◌^◌, List, Some, [], ◌∷◌, codes}
-use Rattle.std.specs.Fmt.{decimal}
-use Rattle.std.specs.Option.{option_map}
-use Rattle.std.specs.declared.alloc.Global.{Global}
-use Rattle.std.specs.declared.string.String.{String}
-use Rattle.tp_model.specs.declared.limits.TheConstants.{MAX_STEPS}
+use Rattle.tp_words.specs.Lower.{decimal, option_map, Global, String, MAX_STEPS}
 use Rattle.tp_words.specs.declared.args.TheConstants.{MAX_WORKERS, QUANTUM}
 use Rattle.tp_words.specs.declared.device_args.Pace.{Pace}
 use Rattle.tp_words.specs.declared.device_args.RunNumbers.{RunNumbers}

@@ -1,8 +1,6 @@
 -- A number of bytes that was typed, as a decimal or with a letter after it.
 use Rattle.std.specs.Prelude.{◌≡◌, ◌*◌, ◌++◌, ℕ, true, List, [], Option, Some, None, IfSome, IsSomeAnd, codes}
-use Rattle.std.specs.Fmt.{decimal}
-use Rattle.std.specs.declared.alloc.Global.{Global}
-use Rattle.std.specs.declared.string.String.{String}
+use Rattle.tp_words.specs.Lower.{decimal, Global, String}
 use Rattle.tp_words.specs.Typed.{has_word}
 use Rattle.tp_words.specs.declared.sizes.Measure.{Measure}
 use Rattle.tp_words.specs.declared.sizes.Measure.TheVariants.{Bytes, Kilo, Mega, Giga}

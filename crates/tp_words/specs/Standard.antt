@@ -1,11 +1,6 @@
 -- Which port lives on standard output, and which on standard input.
 use Rattle.std.specs.Prelude.{◌≡◌, ◌↔◌, ◌<◌, ℕ, List, [], ◌∷◌, ◌++◌, Option, Some, Contains, codes}
-use Rattle.std.specs.Fmt.{decimal}
-use Rattle.std.specs.declared.alloc.Global.{Global}
-use Rattle.std.specs.declared.string.String.{String}
-use Rattle.tp_model.specs.declared.limits.TheConstants.{MAX_PORTS}
-use Rattle.tp_stream_files.specs.Named.{standard_port}
-use Rattle.tp_stream_files.specs.declared.ends.Ends.{Ends}
+use Rattle.tp_words.specs.Lower.{decimal, Global, String, MAX_PORTS, standard_port, Ends}
 use Rattle.tp_words.specs.Given.{all_given}
 
 -- how it is typed that a port does: its decimal, an equals sign, and a dash

@@ -1,9 +1,6 @@
 -- The words of a command line of `stop`.
 use Rattle.std.specs.Prelude.{◌≡◌, ◌≤◌, ◌<◌, ℕ, true, List, [], ◌∷◌, Option, Some, None, codes, string_bytes}
-use Rattle.std.specs.Fmt.{decimal}
-use Rattle.std.specs.Option.{option_map}
-use Rattle.std.specs.declared.alloc.Global.{Global}
-use Rattle.std.specs.declared.string.String.{String}
+use Rattle.tp_words.specs.Lower.{decimal, option_map, Global, String}
 use Rattle.tp_words.specs.declared.args.TheConstants.{MAX_WAIT}
 use Rattle.tp_words.specs.declared.stop_args.StopRequest.{StopRequest}
 use Rattle.tp_words.specs.Given.{given}

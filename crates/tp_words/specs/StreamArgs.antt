@@ -1,10 +1,6 @@
 -- The values of a command line with `--stream`.
 use Rattle.std.specs.Prelude.{◌≡◌, ◌≤◌, ◌<◌, ◌^◌, ℕ, true, List, Option, Some, None, codes, string_bytes}
-use Rattle.std.specs.Fmt.{decimal}
-use Rattle.std.specs.Option.{option_map}
-use Rattle.std.specs.declared.alloc.Global.{Global}
-use Rattle.std.specs.declared.string.String.{String}
-use Rattle.tp_model.specs.declared.limits.TheConstants.{MAX_STEPS}
+use Rattle.tp_words.specs.Lower.{decimal, option_map, Global, String, MAX_STEPS}
 use Rattle.tp_words.specs.declared.args.TheConstants.{MAX_WORKERS, QUANTUM}
 use Rattle.tp_words.specs.declared.stream_args.StreamAsked.{StreamAsked}
 use Rattle.tp_words.specs.declared.stream_args.StreamAsked.TheVariants.{Help, Run}

@@ -1,10 +1,6 @@
 -- Why the words of a stream ask for nothing, and what is told first if several things are wrong.
 use Rattle.std.specs.Prelude.{◌≡◌, ◌⊎◌, ◌≤◌, ◌<◌, ℕ, false, List, [], ◌∷◌, IfSome, codes, length}
-use Rattle.std.specs.declared.alloc.Global.{Global}
-use Rattle.std.specs.declared.string.String.{String}
-use Rattle.clap.specs.Words.{first_value, found_of}
-use Rattle.clap.specs.declared.parser.matches.ArgMatches.{ArgMatches}
-use Rattle.tp_model.specs.declared.limits.TheConstants.{MAX_STEPS}
+use Rattle.tp_words.specs.Lower.{Global, String, first_value, found_of, ArgMatches, MAX_STEPS}
 use Rattle.tp_words.specs.declared.arg_fault.ArgFault.{ArgFault}
 use Rattle.tp_words.specs.declared.arg_fault.ArgFault.TheVariants.{Words, Many, Missing, Memory}
 use Rattle.tp_words.specs.declared.args.TheConstants.{MAX_TURNS, MAX_WORDS, MAX_WORKERS}

@@ -1,8 +1,6 @@
 -- Words that were typed.
 use Rattle.std.specs.Prelude.{◌||◌, ◌++◌, ℕ, Bool, List, codes, string_bytes, nat_eq, bytes_eq}
-use Rattle.std.specs.List.{ends_with, list_any}
-use Rattle.std.specs.declared.alloc.Global.{Global}
-use Rattle.std.specs.declared.string.String.{String}
+use Rattle.tp_words.specs.Lower.{ends_with, list_any, Global, String}
 
 -- a word is this one
 abbrev pub is_word : List ℕ → String Global → Bool

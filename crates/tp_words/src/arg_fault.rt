@@ -92,9 +92,7 @@ impl fmt::Display for ArgFault {
                 f.write_str("tpnet: --to is below --from: there is no entry between them\n")
             }
             ArgFault::Links => {
-                f.write_str(
-                    "tpnet: trace --in takes L=FILE, L a link from 0 to 3; as --in 0=bytes\n",
-                )
+                f.write_str("tpnet: --in takes L=FILE, L a link from 0 to 3; as --in 0=bytes\n")
             }
             ArgFault::TwoInputs(link) => {
                 write!(

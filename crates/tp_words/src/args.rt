@@ -22,7 +22,7 @@ pub enum Asked {
         image: String,
         turns: u32,
     },
-    /// Steps of one node, from its image, without a device: what each does, in a line.
+    /// Steps of one node, from its image, without a device: what each does, in a line, or what leaves at its links.
     Trace(ImageTrace),
     /// Opens a device and shows the steps that its journal's entries made at a node, a line each. `maps`: the folder of the maps that name addresses,
     /// where one is given.

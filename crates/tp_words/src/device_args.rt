@@ -1,9 +1,7 @@
 //! What the commands ask for that write a device.
 
 ghost use Rattle.std.specs.Prelude.{◌≡◌, ◌≤◌, ◌∷◌, IfErr, IfOk, OnOk, codes, string_bytes};
-ghost use Rattle.clap.specs.Words.{first_value, found_of};
-ghost use Rattle.std.specs.Fmt.{decimal};
-ghost use Rattle.std.specs.Option.{option_map};
+ghost use Rattle.tp_words.specs.Lower.{first_value, found_of, decimal, option_map};
 ghost use Rattle.tp_words.specs.Args.{IsEvery, IsInRange, WasTyped};
 ghost use Rattle.tp_words.specs.Given.{given, IsGivenOr};
 ghost use Rattle.tp_words.specs.Places.{HasFoundTexts, HasPlaces, area_places, places};

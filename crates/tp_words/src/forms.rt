@@ -5,19 +5,19 @@ use crate::words::{Form, Word};
 /// Says more of a refusal.
 pub const EXPLAIN: Word = Word::Flag(
     "explain",
-    "after a refusal, say which file, why, and what to do, as on a terminal in any case",
+    "after a refusal, say which file, why, and what to do (on a terminal it does so anyway)",
 );
 
 /// Says more of a refusal, and, if all was done, of nodes that have halted.
 const EXPLAIN_HALTED: Word = Word::Flag(
     "explain",
-    "after a refusal, say which file, why, and what to do, as on a terminal in any case; else which nodes have halted",
+    "after a refusal, say which file, why, and what to do (on a terminal it does so anyway); if all was done, say which nodes have halted",
 );
 
 /// Says no more than a refusal's name.
 pub const NO_EXPLAIN: Word = Word::Flag(
     "no-explain",
-    "after a refusal, say its name alone, on a terminal too",
+    "after a refusal, say only its name, even on a terminal",
 );
 
 /// Prints for scripts.
@@ -27,7 +27,7 @@ const JSON: Word = Word::Flag("json", "print it as one line of JSON, for scripts
 pub const WAIT_LOCK: Word = Word::Value(
     "wait-lock",
     "SECONDS",
-    "seconds to wait for another tpnet that holds DEVICE, 0 to 4294967 (0: refused at once)",
+    "seconds to wait for another tpnet that holds DEVICE, 0 to 4294967 (0: refuse at once)",
 );
 
 /// The device of a command that only reads it.
@@ -52,20 +52,67 @@ const MAPS: Word = Word::Value(
     "the folder of maps that tools/assemble --map wrote: I.map of node I, all.map of each node that has none",
 );
 
+/// The bytes that come in at a link of a node that is alone.
+const LINK_INPUT: Word = Word::Many(
+    "in",
+    "L=FILE",
+    "for each link L from 0 to 3 of an image: at its other end is somebody who sends FILE's bytes, and acknowledges what comes",
+);
+
+/// The instruction of an image before which it stops.
+const UNTIL: Word = Word::Value(
+    "until",
+    "PLACE",
+    "of an image: stop before the instruction there, an address of eight digits or a label of the map, and print the state",
+);
+
+/// The bytes of an image's memory after whose change it stops.
+const WATCH: Word = Word::Value(
+    "watch",
+    "PLACE",
+    "of an image: stop after what changed the bytes there, and print the state",
+);
+
+/// How many bytes these are.
+const WATCHED_BYTES: Word = Word::Value(
+    "bytes",
+    "N",
+    "with --watch: how many bytes, 1 to 1024 (4)",
+);
+
 pub const TRY: Form = Form {
     name: "try",
-    about: "Runs one node without a device, its link 0 wired to port 0, and prints what port 0 puts out",
+    about: "Runs one node without a device: with --turns its link 0 is wired to port 0, whose output it prints; without it the node makes steps, with nobody at its links but those of --in, and it prints what goes out there, and the state in the end",
     words: &[
         EXPLAIN_HALTED,
         NO_EXPLAIN,
         Word::Place("IMAGE", "the node's image: 172 bytes and its memory"),
-        Word::Needed("turns", "N", "how many turns: node, host, node, host .."),
+        Word::Alone(
+            "turns",
+            "N",
+            &["steps", "in", "map", "until", "watch", "bytes"],
+            "how many turns: node, host, node, host ..; without it the node makes steps",
+        ),
+        Word::Value(
+            "steps",
+            "N",
+            "how many steps at most, with what comes in, 1 to 4294967295 (100)",
+        ),
+        LINK_INPUT,
+        Word::Value(
+            "map",
+            "FILE",
+            "the map that tools/assemble --map wrote, which names addresses",
+        ),
+        UNTIL,
+        WATCH,
+        WATCHED_BYTES,
     ],
 };
 
 pub const TRACE: Form = Form {
     name: "trace",
-    about: "Prints what each step of one node does in a line, with the registers behind it: of an image, with nobody at its links but those of --in, or of a device, as its journal has it",
+    about: "Prints a line for each step of one node, with the registers after it: of an image, with nobody at its links except those of --in, or of a device, as its journal has it",
     words: &[
         EXPLAIN,
         NO_EXPLAIN,
@@ -81,29 +128,17 @@ pub const TRACE: Form = Form {
         Word::Instead(
             "I",
             "steps",
-            "the node's number, as in tpnet show: FILE is a device then, and what its journal's entries did at that node is printed",
+            "the node's number, as in tpnet show: FILE is then a device, and it prints what the journal's entries did at that node",
         ),
         Word::Value(
             "steps",
             "N",
-            "without I: how many steps at most, with what comes in, 1 to 4294967295 (100 where it isn't given)",
+            "without I: how many steps at most, with what comes in, 1 to 4294967295 (100 by default)",
         ),
-        Word::Many(
-            "in",
-            "L=FILE",
-            "without I, for each link L from 0 to 3: at its other end is somebody who sends FILE's bytes, and acknowledges what comes",
-        ),
-        Word::Value(
-            "until",
-            "PLACE",
-            "without I: stop before the instruction there, an address of eight digits or a label of the map, and print the state",
-        ),
-        Word::Value(
-            "watch",
-            "PLACE",
-            "without I: stop behind what changed the bytes there, and print the state",
-        ),
-        Word::Value("bytes", "N", "with --watch: how many bytes, 1 to 1024 (4)"),
+        LINK_INPUT,
+        UNTIL,
+        WATCH,
+        WATCHED_BYTES,
         Word::Value("from", "N", "with I: the number of the first entry"),
         Word::Value("to", "N", "with I: the number of the last entry"),
     ],
@@ -133,7 +168,7 @@ pub const FORMAT: Form = Form {
         Word::Instead(
             "AREA",
             "area",
-            "the bytes of each of the two areas, up to 2^40: a decimal, or one with K, M or G after it, as 64K (the least with room for 65536 journal entries between two checkpoints, as tpnet check says)",
+            "the bytes of each of the two areas, up to 2^40: a decimal number, maybe with K, M or G after it, such as 64K (by default the least with room for 65536 journal entries between two checkpoints, as tpnet check says)",
         ),
     ],
 };
@@ -153,7 +188,7 @@ pub const RUN: Form = Form {
         Word::Value(
             "workers",
             "W",
-            "threads that make turns, 1 to 16 (2 where it isn't given)",
+            "threads that make turns, 1 to 16 (2 by default)",
         ),
         Word::Value(
             "quantum",
@@ -168,7 +203,7 @@ pub const RUN: Form = Form {
         Word::Value(
             "every",
             "E",
-            "entries since the kept cut after which a snapshot begins, 1 to 4294967295 (where the journal is half full)",
+            "entries since the kept cut after which a snapshot begins, 1 to 4294967295 (by default when the journal is half full)",
         ),
         Word::Value(
             "port",
@@ -178,12 +213,12 @@ pub const RUN: Form = Form {
         Word::Value(
             "in",
             "FILE",
-            "the port's whole input, from position 0; what was accepted before is passed over (no input)",
+            "the port's whole input, from position 0; what the port has accepted before is skipped (no input)",
         ),
         WAIT_LOCK,
         Word::Flag(
             "stream",
-            "let ports live on files and standard streams: see tpnet run --stream --help",
+            "attach ports to files and standard streams: see tpnet run --stream --help",
         ),
     ],
 };
@@ -198,7 +233,7 @@ pub const STOP: Form = Form {
         Word::Value(
             "wait",
             "SECONDS",
-            "seconds to wait until no other tpnet holds DEVICE, 1 to 4294967 (without it none: it is asked, and that is all)",
+            "seconds to wait until no other tpnet holds DEVICE, 1 to 4294967 (without it, it asks and doesn't wait)",
         ),
     ],
 };
@@ -218,7 +253,7 @@ pub const BACKUP: Form = Form {
         Word::Place("DEVICE", "the device's file, which is only read"),
         Word::Place(
             "COPY",
-            "the file that is made: nothing may be there yet, nor at COPY.part, where it is made",
+            "the file that is made, as COPY.part first: nothing may be at either path yet",
         ),
     ],
 };
@@ -233,7 +268,7 @@ pub const RECOVER: Form = Form {
         Word::Value(
             "workers",
             "W",
-            "threads that replay the nodes, 1 to 16 (1 where it isn't given); whatever their number, they say what one says",
+            "threads that replay the nodes, 1 to 16 (1 by default); the answer doesn't depend on their number",
         ),
     ],
 };
@@ -246,16 +281,16 @@ pub const SHOW: Form = Form {
 
 pub const STATUS: Form = Form {
     name: "status",
-    about: "Opens a device, writes nothing, and prints in one line whether it is run, and how far it is",
+    about: "Opens a device, writes nothing, and prints in one line whether another tpnet runs it, and how far it is",
     words: &[
         EXPLAIN,
         NO_EXPLAIN,
-        Word::Flag("json", "print each look as one line of JSON, for scripts"),
+        Word::Flag("json", "print each check as one line of JSON, for scripts"),
         DEVICE,
         Word::Value(
             "every",
             "S",
-            "look again each S seconds, 1 to 4294967295, until it is interrupted (without it there is one look)",
+            "check again every S seconds, 1 to 4294967295, until it is interrupted (without it, it checks once)",
         ),
     ],
 };
@@ -287,7 +322,7 @@ pub const IMAGE: Form = Form {
 
 pub const JOURNAL: Form = Form {
     name: "journal",
-    about: "Prints each entry behind the cut in a line, with its number",
+    about: "Prints a line for each journal entry since the checkpoint, with its number",
     words: &[
         EXPLAIN,
         NO_EXPLAIN,

@@ -1,9 +1,7 @@
 //! What `clap` found among the words, and that it was typed.
 
 ghost use Rattle.std.specs.Prelude.{◌≡◌, ◌≤◌, ◌<◌, ◌⊎◌, ◌^◌, true, None, Some, IfErr, IfOk, IfSome, OnOk, codes, string_bytes};
-ghost use Rattle.clap.specs.Words.{first_value, found_of};
-ghost use Rattle.std.specs.Fmt.{decimal};
-ghost use Rattle.std.specs.Option.{option_map};
+ghost use Rattle.tp_words.specs.Lower.{first_value, found_of, decimal, option_map};
 ghost use Rattle.tp_words.specs.Given.{given, has_flag, IsGivenOr};
 ghost use Rattle.tp_words.specs.Numbers.{Fits, FoundOther, IsNumberFault};
 ghost use Rattle.tp_words.specs.Places.{IsFound};

@@ -1,18 +1,31 @@
 //! What the help of each command says of its refusals.
 
-/// What `tpnet try` refuses.
-pub const TRY_REFUSALS: &str = "Refusals (status 1):
-  ReadFailed    IMAGE can't be read: look at its path and its rights
-  BadImage      IMAGE is no node's image, or a link of it is at work: make it with tools/make-image
+/// What the lines of `tpnet try` mean, and what it refuses.
+pub const TRY_REFUSALS: &str =
+    "With --turns it prints the bytes that port 0 puts out, at most 4096, and nothing else.
+Else it prints, of the lines of tpnet trace IMAGE, those in which a byte goes out: sends, the link, and Data with the byte. Then it says why it
+ends, and prints registers, queues, the workspace's first words and the bytes of --watch:
+  waits                no process can run, and one waits at a link
+  idle                 no process can run, and none waits at a link
+  halted FAULT at ADDRESS   the node has halted at the instruction there
+  stop until ADDRESS   the instruction there is the next step
+  stop watch           the last step, or what came in, changed one of the bytes
+  stop steps           it has made --steps steps
+Nobody is at a link without --in: nothing comes in, what is sent is lost and never acknowledged, so a process that sends or waits there stops for good.
+Refusals (status 1):
+  ReadFailed    IMAGE, the map or a file of --in can't be read: look at its path and its rights
+  BadMap L      line L of the map is none of a map: make the map anew, by tools/assemble --map
+  NoPlace       PLACE is neither an address of eight digits with capital letters nor a label of the map
+  BadImage      IMAGE is no node's image, or, with --turns, a link of it is at work: make it with tools/make-image
   DeviceFailed  standard output can't be written
   Memory        there is no memory left: take an image with fewer pages";
 
 /// What the lines of `tpnet trace` mean, and what it refuses.
 pub const TRACE_REFUSALS: &str =
-    "A line: the step's number, the address where the instruction stands, the instruction, and behind the step A, B, C, the workspace Wptr,
-what runs (high, low or idle), error where Error is set, where something leaves sends, the link and the token, and with --map the label,
-the distance and the place in the source. interrupt, dispatch high, restore and dispatch low are steps, too.
-Of an image the last line says why nothing happens any more, where nothing does:
+    "A line has the step's number, the address of the instruction, and the instruction. Then it has, as they are after the step, A, B, C, the
+workspace Wptr, what runs (high, low or idle), and error if Error is set. If something leaves, it has sends, the link and the token. With --map it
+has the label, the distance and the place in the source. interrupt, dispatch high, restore and dispatch low are steps, too.
+If nothing happens any more in an image, the last line says why:
   waits            no process can run, and one waits at a link
   idle             no process can run, and none waits at a link
   halted FAULT at ADDRESS   the node has halted at the instruction there
@@ -74,32 +87,34 @@ Refusals (status 1); nothing is written to DEVICE:
   NotFormatted  DEVICE is none: make one with tpnet format
   BadVersion    DEVICE is of another version of tpnet
   NoOpenArea    neither area is open: format was stopped, or the device was written over
-  Damaged AT    what stands at offset AT breaks its rule: restore a copy
+  Damaged AT    what is at offset AT breaks its rule: restore a copy
   Busy          another tpnet writes DEVICE so fast that no moment of it could be read: try again, or stop that one
   DeviceFailed  standard output can't be written
   Memory        there is no memory left";
 
 /// What the words of the line of `tpnet status` mean, and what it refuses.
 pub const STATUS_REFUSALS: &str = "The line:
+  HH:MM:SSZ       with --every: the time of day in UTC, if the system says it
   running yes     another tpnet runs, formats or compacts DEVICE (no: none does)
   generation G    the checkpoint that counts; one more each time
   form F          turns, or plain: its journal holds no turns, as another program wrote it; the next checkpoint changes that
   next M          the number of the next journal entry
   entries E of R  the journal has E entries since that checkpoint, and room for R: how much of it that is, in percent
+  steps N         how many steps all nodes made in these E entries
   port P          and of each port:
   accepted A      how many bytes it has accepted in all
   pending Y       how many of these no node has taken yet
   put_out Z       how many bytes it has put out in all
   unconfirmed N   how many of these aren't confirmed
   halted I F at A node I has halted by the fault F at the address A, each node so; or none has
-  +N/s            with --every: how much next, accepted and put_out grew in a second since the look before
+  +N/s            with --every: how much next, accepted and put_out grew in a second since the check before
 DEVICE may be run meanwhile: what is printed is so at one moment of the call.
 Refusals (status 1), which end --every; nothing is written to DEVICE:
   ReadFailed    DEVICE can't be opened or read, or is no regular file: look at its path and its rights
   NotFormatted  DEVICE is none: make one with tpnet format
   BadVersion    DEVICE is of another version of tpnet
   NoOpenArea    neither area is open: format was stopped, or the device was written over
-  Damaged AT    what stands at offset AT breaks its rule: restore a copy
+  Damaged AT    what is at offset AT breaks its rule: restore a copy
   Busy          another tpnet writes DEVICE so fast that no moment of it could be read: try again, or stop that one
   DeviceFailed  standard output can't be written
   Memory        there is no memory left";
@@ -135,21 +150,25 @@ Refusals (status 1); nothing is written to DEVICE:
   NotFormatted  DEVICE is none: make one with tpnet format
   BadVersion    DEVICE is of another version of tpnet
   NoOpenArea    neither area is open: format was stopped, or the device was written over
-  Damaged AT    what stands at offset AT breaks its rule: restore a copy
+  Damaged AT    what is at offset AT breaks its rule: restore a copy
   Busy          another tpnet writes DEVICE so fast that no moment of it could be read: try again, or stop that one
   DeviceFailed  standard output can't be written
   Memory        there is no memory left";
 
-/// What `tpnet node` refuses.
-pub const NODE_REFUSALS: &str =
-    "DEVICE may be run meanwhile: what is printed is so at one moment of the call.
+/// What the last lines of `tpnet node` mean, and what it refuses.
+pub const NODE_REFUSALS: &str = "At its end is what the node has done in the entries of the journal:
+  since B         the checkpoint has the B entries before these
+  entries E       the node's entries since then, as tpnet journal DEVICE --node I lists them
+  steps N         how many steps it made in them
+  bytes K in X out Y   of each link K: X bytes came in, and Y went out, whose acknowledge the node took
+DEVICE may be run meanwhile: what is printed is so at one moment of the call.
 Refusals (status 1); nothing is written to DEVICE:
   ReadFailed    DEVICE can't be opened or read, or is no regular file, or FOLDER has no map: look at their paths and rights
   BadMap F L    line L of FOLDER/F is none of a map: make the map anew, by tools/assemble --map
   NotFormatted  DEVICE is none: make one with tpnet format
   BadVersion    DEVICE is of another version of tpnet
   NoOpenArea    neither area is open: format was stopped, or the device was written over
-  Damaged AT    what stands at offset AT breaks its rule: restore a copy
+  Damaged AT    what is at offset AT breaks its rule: restore a copy
   Busy          another tpnet writes DEVICE so fast that no moment of it could be read: try again, or stop that one
   DeviceFailed  standard output can't be written
   Memory        there is no memory left";
@@ -163,7 +182,7 @@ Refusals (status 1):
   NotFormatted  DEVICE is none: make one with tpnet format
   BadVersion    DEVICE is of another version of tpnet
   NoOpenArea    neither area is open: format was stopped, or the device was written over
-  Damaged AT    what stands at offset AT breaks its rule: restore a copy
+  Damaged AT    what is at offset AT breaks its rule: restore a copy
   JournalFull   no generation is left: 2^48 checkpoints were made
   DeviceFailed  DEVICE can't be written or synced, or standard output can't: look at rights and room
   Memory        there is no memory left";
@@ -173,15 +192,15 @@ pub const BACKUP_REFUSALS: &str =
     "DEVICE may be run meanwhile: the copy is of one moment, and has all that was durable when the command began.
 It is made as COPY.part, which gets the name COPY once it is whole and synced: that takes a file system with hard links. Then its
 folder is synced, and only then copied next M is printed. Nothing that is there is written over or removed.
-Refusals (status 1); nothing is written to DEVICE, and a copy that was made is removed, as far as the system lets it be, but where
-standard output alone can't be written:
+Refusals (status 1); nothing is written to DEVICE. A copy that was made is removed if the system lets it be, unless only standard output
+can't be written:
   CopyExists    COPY is there already, or COPY.part is the file of DEVICE: name another COPY
   PartExists    COPY.part is there already: a backup that was stopped left it; remove it, unless another backup makes it now
   ReadFailed    DEVICE can't be opened or read, or is no regular file: look at its path and its rights
   NotFormatted  DEVICE is none: make one with tpnet format
   BadVersion    DEVICE is of another version of tpnet
   NoOpenArea    neither area is open: format was stopped, or the device was written over
-  Damaged AT    what stands at offset AT breaks its rule: restore a copy
+  Damaged AT    what is at offset AT breaks its rule: restore a copy
   Busy          another tpnet writes DEVICE so fast that no moment of it could be copied: try again, or stop that one
   DeviceFailed  COPY can't be made, written, synced or named: look at its folder, at rights and at room; or standard
                 output can't be written: then COPY is there, whole and synced
@@ -189,7 +208,7 @@ standard output alone can't be written:
 
 /// What `tpnet run` refuses.
 pub const RUN_REFUSALS: &str =
-    "Where FILE can't be read, or DEVICE isn't opened, nothing is written to DEVICE.
+    "If FILE can't be read, or DEVICE isn't opened, nothing is written to DEVICE.
 Refusals (status 1):
   InUse         another tpnet runs, formats or compacts DEVICE: wait for it (--wait-lock), or end it
   ReadFailed    FILE can't be read, or DEVICE can't be opened to read and write, or be read, or is no regular file: look
@@ -197,27 +216,27 @@ Refusals (status 1):
   NotFormatted  DEVICE is none: make one with tpnet format
   BadVersion    DEVICE is of another version of tpnet
   NoOpenArea    neither area is open: format was stopped, or the device was written over
-  Damaged AT    what stands at offset AT breaks its rule: restore a copy
+  Damaged AT    what is at offset AT breaks its rule: restore a copy
   JournalFull   DEVICE has no room for all bytes of FILE that its port takes at once (--stream takes them by pieces), or for the
                 confirm, whose output was printed (tpnet compact makes room): see --explain
   DeviceFailed  DEVICE can't be written or synced, or standard output can't: look at rights and room
   Memory        there is no memory left
-A --spare above a node's pages and a --port that isn't there end with status 2, once DEVICE is open; standard output that is the file
-of DEVICE or of --in, or one regular file with standard error, does before.";
+Once DEVICE is open, a --spare above a node's pages and a --port that isn't there end with status 2. Before that, so does standard output that is
+the file of DEVICE or of --in, or that goes into one regular file with standard error.";
 
 /// How `tpnet stop` asks, and what it refuses.
 pub const STOP_REFUSALS: &str =
-    "It makes the empty file DEVICE.stop, which a stream looks for behind each flush but those beside workers. The stream then makes no
-further turn, confirms what is shown, takes the file away and ends with status 0; its last line is next M stopped. Where the file is
-there already the stream was asked before.
-Only tpnet run --stream can be asked. While run without --stream, compact or format has DEVICE, nobody takes the file: --wait says whether it ended.
+    "It makes the empty file DEVICE.stop. A stream checks for it after each flush, except while workers make turns. Then it makes no more turns,
+confirms what is shown, removes the file and ends with status 0; its last line is next M stopped. If the file is there already, the stream
+was asked before.
+Only tpnet run --stream can be asked. While run without --stream, compact or format has DEVICE, nobody removes the file: --wait says whether it ended.
 Refusals (status 1); nothing is written to DEVICE:
   ReadFailed    DEVICE can't be opened to read and write, or is no regular file: look at its path and its rights
   NotRunning    no other tpnet has DEVICE, so there is nobody to ask; a DEVICE.stop that was left is removed
   NotFormatted  nobody has DEVICE, and it is none: make one with tpnet format
   BadVersion    nobody has DEVICE, and it is of another version of tpnet
-  Damaged AT    nobody has DEVICE, and what stands at offset AT of its head breaks its rule: restore a copy
-  StopExists    what stands at DEVICE.stop is no empty file, so it is somebody's, and it stays: move it
+  Damaged AT    nobody has DEVICE, and what is at offset AT of its head breaks its rule: restore a copy
+  StopExists    what is at DEVICE.stop is no empty file, so it is somebody's own, and stays: move it
   StillRunning  it was asked, and SECONDS later another tpnet has DEVICE still: wait for it again, or end it otherwise
   DeviceFailed  DEVICE.stop can't be made: look at its folder and your rights there; or standard output can't be written
   Memory        there is no memory left";

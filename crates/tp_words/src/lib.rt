@@ -34,5 +34,5 @@ pub use shown::Shown;
 pub use stop_args::StopRequest;
 pub use stream_args::{StreamAsked, StreamRun, read_stream_args};
 pub use stream_ends::{EndsFault, FileOption};
-pub use trace_args::ImageTrace;
+pub use trace_args::{ImageTrace, TraceLines};
 pub use views::{JournalPart, TracePart, View};

@@ -1,9 +1,7 @@
 //! Words and numbers that were typed.
 
 ghost use Rattle.std.specs.Prelude.{◌≡◌, ◌≢◌, ◌<◌, ◌^◌, ℕ, None, IfOk, IfSome, bytes_eq, map, string_bytes};
-ghost use Rattle.std.specs.Cmp.Lexicographic.{pointwise};
-ghost use Rattle.std.specs.Fmt.{decimal};
-ghost use Rattle.std.specs.Option.{option_map};
+ghost use Rattle.tp_words.specs.Lower.{pointwise, decimal, option_map};
 ghost use Rattle.tp_words.specs.Given.{all_given_in, given_in, has_flag, value_in, value_of};
 ghost use Rattle.tp_words.specs.Typed.{has_value, has_word, is_value, is_word, was_typed};
 

@@ -1,8 +1,7 @@
 //! What `clap` makes of words.
 
-ghost use Rattle.clap.specs.Words.{kind_of};
-ghost use Rattle.clap.specs.declared.error.kind.ErrorKind.TheVariants.{OutOfMemory};
 ghost use Rattle.std.specs.Prelude.{◌≡◌, ◌≤◌, ◌↔◌, IfErr, IfOk, IfSome, IsTrue, OnOk, length};
+ghost use Rattle.tp_words.specs.Lower.{kind_of, OutOfMemory};
 ghost use Rattle.tp_words.specs.Parsing.{IsMistake, IsUnparsed, IsUntaken};
 ghost use Rattle.tp_words.specs.declared.args.TheConstants.{MAX_WORDS};
 

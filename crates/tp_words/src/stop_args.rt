@@ -1,8 +1,7 @@
 //! What a command line of `stop` asks for.
 
 ghost use Rattle.std.specs.Prelude.{◌≡◌, IfOk, codes};
-ghost use Rattle.std.specs.Fmt.{decimal};
-ghost use Rattle.std.specs.Option.{option_map};
+ghost use Rattle.tp_words.specs.Lower.{decimal, option_map};
 ghost use Rattle.tp_words.specs.Given.{given};
 ghost use Rattle.tp_words.specs.StopArgs.{HasStopPlaces, IsWait, WasStopTyped};
 

@@ -1,13 +1,11 @@
 //! What was typed of the ends of a stream's ports.
 
 ghost use Rattle.std.specs.Prelude.{◌≡◌, ◌≢◌, ◌⊎◌, ◌++◌, ◌∷◌, ◌<◌, ◌==◌, ◌^◌, All, Any, Some, if◌then◌else◌, nat_lt, IfErr, IfOk, IfSome, None, codes, count_by, length, map};
-ghost use Rattle.std.specs.Fmt.{decimal};
+ghost use Rattle.tp_words.specs.Lower.{decimal, MAX_PORTS, standard_port};
 ghost use Rattle.tp_words.specs.Ends.{AreEnds, AreSound, IsFaultOf, IsFile, IsFirstFault, IsHave, IsNoFile, IsNoHave, IsNoPort, IsPort, IsRefused, IsTextFault, WereTyped, fault_at, file_text, have_text, id_of, reader_fault, standard_count};
 ghost use Rattle.tp_words.specs.Given.{all_given, found_texts};
 ghost use Rattle.tp_words.specs.Standard.{AreStandard};
 ghost use Rattle.tp_words.specs.declared.stream_ends.EndsFault.TheVariants.{File, Have, Discard, Missing, Memory};
-ghost use Rattle.tp_model.specs.declared.limits.TheConstants.{MAX_PORTS};
-ghost use Rattle.tp_stream_files.specs.Named.{standard_port};
 
 use crate::numbers::{are_given, number_of};
 use clap::ArgMatches;

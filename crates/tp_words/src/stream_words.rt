@@ -5,14 +5,14 @@ use crate::words::{Form, Word};
 
 /// What `tpnet run --stream` refuses.
 pub const STREAM_REFUSALS: &str =
-    "P is a port's number, as in tpnet show. Byte number q of port P stands at offset q of its FILE.
+    "P is a port's number, as in tpnet show. Byte number q of port P is at offset q of its FILE.
 Each port with a wire needs an --out or a --discard.
-Without --turns and --until-quiet it runs until its ends are gone: whoever reads standard output has ended, or nothing is left to do
-and each input has come to its end, or its port is full of bytes that no node takes.
+Without --turns and --until-quiet it runs until whoever reads standard output has ended, or until nothing is left to do and no input can come:
+each input has come to its end, or its port is full of bytes that no node takes.
 The last line on standard error is next M, and why it ended: quiet, turns, gone, stopped or halted (status 3).
+Before that line come the nodes that have halted, such as halted 1 BadAddress at 80000107, or that wait though there is input, such as waits 2.
+After quiet --explain says whether processes wait for other nodes (on a terminal it does so anyway): tpnet waits shows them.
 To end it call tpnet stop DEVICE in another terminal. Ctrl-C and kill end it without a last line; nothing that was shown is lost.
-Before it stands each node that has halted, as halted 1 BadAddress at 80000107, or that waits though there is input, as waits 2.
-After quiet it is said by --explain, and on a terminal, if processes wait for other nodes: tpnet waits shows them.
 Refusals (status 1):
   InUse         another tpnet runs, formats or compacts DEVICE: wait for it (--wait-lock), or end it
   ReadFailed    an input can't be read (a FIFO: take --in P=- < FIFO), or DEVICE can't be opened to read and write, or be
@@ -20,7 +20,7 @@ Refusals (status 1):
   NotFormatted  DEVICE is none: make one with tpnet format
   BadVersion    DEVICE is of another version of tpnet
   NoOpenArea    neither area is open: format was stopped, or the device was written over
-  Damaged AT    what stands at offset AT breaks its rule: restore a copy
+  Damaged AT    what is at offset AT breaks its rule: restore a copy
   Short P H C   port P's FILE has H bytes, and C were confirmed: it was cut, or is another file
   Long P H U    port P's FILE has H bytes, and the port put out U in all: it is another file, and stays as it is
   Gone P H C    --have P=H, and C bytes were confirmed: those from H on aren't on DEVICE any more
@@ -30,10 +30,13 @@ Refusals (status 1):
                 is no regular file can't be synced: take --out P=- > FILE, or --discard P
   JournalFull   DEVICE has no room for further entries: tpnet compact DEVICE, then the same command again
   Memory        there is no memory left
-A fault of the words ends with status 2; so do, once DEVICE is held, an output that goes into the file of DEVICE, an input, another
-output or standard error, a --spare above a node's pages, a port that isn't there, a port with a wire for whose output nothing was said,
-a --stop-file at whose PATH something is already, or can't be looked for, or which is a file of the stream, an end of a port or a
-standard stream that is DEVICE.stop, and a DEVICE.stop that was left by tpnet stop and can't be removed.";
+A fault of the words ends with status 2. So do these, once DEVICE is held:
+  an output that goes into the file of DEVICE, of an input, of another output or of standard error
+  a --spare above a node's pages, or a port that isn't there
+  a port with a wire, if neither --out nor --discard names it
+  a --stop-file, if something is at PATH already, if that can't be checked, or if PATH is a file of the stream
+  an --out, an --in or a standard stream whose file is DEVICE.stop
+  a DEVICE.stop that tpnet stop left and that can't be removed";
 
 /// The options that `run` has with `--stream` alone.
 const STREAM_OPTIONS: &[&str] = &[
@@ -90,28 +93,28 @@ pub fn stream_option(words: &[String]) -> Option<&'static str> {
 /// `run` with `--stream`: where the bytes of ports go and come from, how turns are made, and when the stream ends.
 pub const STREAM: Form = Form {
     name: "run",
-    about: "Opens a device and runs its network, whose ports live on files, standard input and standard output for as long as it runs",
+    about: "Opens a device and runs its network, whose ports write to files or standard output and read from files or standard input meanwhile",
     words: &[
         EXPLAIN,
         NO_EXPLAIN,
         WRITTEN,
-        Word::Mark("stream", "ports live on streams"),
+        Word::Mark("stream", "attach ports to files and standard streams"),
         WAIT_LOCK,
         Word::Many(
             "out",
             "P=FILE",
-            "where port P's output goes: a file, which is made where it isn't there and never emptied, or standard output (-)",
+            "where port P's output goes: a file, which is made if it isn't there and never emptied, or standard output (-)",
         ),
         Word::Many(
             "have",
             "P=Z",
-            "what the reader of standard output has of port P already, in bytes from position 0; what a reader leaves in a pipe is lost",
+            "how many bytes of port P, from position 0, the reader of standard output has already; what a reader leaves in a pipe is lost",
         ),
-        Word::Many("discard", "P", "port P's output is let go"),
+        Word::Many("discard", "P", "discard port P's output"),
         Word::Many(
             "in",
             "P=FILE",
-            "port P's whole input, from position 0: a file, or standard input (-); what was accepted before is passed over",
+            "port P's whole input, from position 0: a file, or standard input (-); what the port has accepted before is skipped",
         ),
         Word::Value(
             "turns",
@@ -126,13 +129,13 @@ pub const STREAM: Form = Form {
         Word::Value(
             "stop-file",
             "PATH",
-            "end once something is at PATH, free at first: looked behind each flush but those beside workers; what was shown is confirmed",
+            "end once something is at PATH, which must be free at first: checked after each flush except while workers make turns; what was shown is confirmed",
         ),
         Word::Flag(
             "progress",
-            "say on standard error how far it has come, each 10 seconds, as on a terminal in any case",
+            "say on standard error every 10 seconds how far it has come (on a terminal it does so anyway)",
         ),
-        Word::Value("progress-every", "S", "say so each S seconds, 1 to 3600"),
+        Word::Value("progress-every", "S", "say so every S seconds, 1 to 3600"),
         Word::Value(
             "workers",
             "W",
@@ -151,7 +154,7 @@ pub const STREAM: Form = Form {
         Word::Value(
             "every",
             "E",
-            "entries since the kept cut after which a snapshot begins, 1 to 4294967295 (where the journal is half full, at the latest)",
+            "entries since the kept cut after which a snapshot begins, 1 to 4294967295 (by default, and at the latest, when the journal is half full)",
         ),
     ],
 };

@@ -1,11 +1,12 @@
-//! What `trace` asks for.
+//! What `trace` asks for, and `try` of steps.
 
-ghost use Rattle.std.specs.Prelude.{◌≡◌, None, IfOk, codes, map};
+ghost use Rattle.std.specs.Prelude.{◌≡◌, true, None, IfOk, codes, map, string_bytes};
 ghost use Rattle.tp_words.specs.Args.{IsInRange, WasTyped};
 ghost use Rattle.tp_words.specs.Ends.{file_text};
 ghost use Rattle.tp_words.specs.Given.{all_given};
 ghost use Rattle.tp_words.specs.Places.{HasPlaces};
 ghost use Rattle.tp_words.specs.TraceArgs.{AreOfLinks, IsImageTrace, IsOfLink, IsTypedImage};
+ghost use Rattle.tp_words.specs.Typed.{has_word};
 
 use crate::arg_fault::ArgFault;
 use crate::args::{Asked, MAX_TURNS, STEPS};
@@ -26,11 +27,21 @@ pub const WATCHED: u32 = 4;
 /// The most bytes that are watched.
 pub const MAX_WATCHED: u64 = 1 << 10;
 
-/// A trace of a node's image: its file; how many lines of steps and of tokens there are at most; for links the files whose bytes come in there, each link as
-/// the port; the file of the map that names addresses; the place of the instruction before which it stops; and the place of the bytes behind whose change it
-/// stops, and how many these are.
+/// Which lines of a trace of an image are printed.
+#[derive(Clone, Copy)]
+pub enum TraceLines {
+    /// Each, as `trace` prints them.
+    Every,
+    /// Those in which a byte leaves, as `try` prints them, and the node's state in the end.
+    Sending,
+}
+
+/// A trace of a node's image: which of its lines are printed; its file; how many lines of steps and of tokens there are at most; for links the files whose
+/// bytes come in there, each link as the port; the file of the map that names addresses; the place of the instruction before which it stops; and the place
+/// of the bytes after whose change it stops, and how many these are.
 #[derive(Drop)]
 pub struct ImageTrace {
+    pub lines: TraceLines,
     pub image: String,
     pub steps: u32,
     pub inputs: Vec<PortFile>,
@@ -93,18 +104,35 @@ fn inputs_of(alloc: Global, words: &[String], found: &ArgMatches) -> Result<Vec<
     }
 }
 
-/// What is asked for of an image.
-fn image_trace(alloc: Global, words: &[String], found: &ArgMatches) -> Result<ImageTrace, ArgFault>
+/// Whether `--bytes` is there without what is watched.
+fn has_lone_bytes(found: &ArgMatches) -> bool {
+    found.get_str("bytes").is_some() && found.get_str("watch").is_none()
+}
+
+/// What is asked for of an image: a trace that prints these lines.
+pub fn image_trace(
+    alloc: Global,
+    words: &[String],
+    found: &ArgMatches,
+    lines: TraceLines,
+    image: String,
+) -> Result<ImageTrace, ArgFault>
+    requires { has_word (string_bytes image) words.now ≡ true }
     ensures range { IfOk result IsImageTrace }
     ensures typed { IfOk result (IsTypedImage words.now) }
+    ensures given { IfOk result (λ trace. (trace.lines ≡ lines) × (trace.image ≡ image)) }
 {
+    if has_lone_bytes(found) {
+        return Err(ArgFault::Missing);
+    }
     let steps = option_or(alloc, words, found, "steps", 1, MAX_TURNS, STEPS as u64)? as u32;
     let fallback = WATCHED as u64;
     let bytes = option_or(alloc, words, found, "bytes", 1, MAX_WATCHED, fallback)? as u32;
     Ok(ImageTrace {
+        lines,
         steps,
         bytes,
-        image: text_of(alloc, words, found, "FILE")?,
+        image,
         map: option_string(alloc, words, found, "map")?,
         until: option_string(alloc, words, found, "until")?,
         watch: option_string(alloc, words, found, "watch")?,
@@ -112,11 +140,9 @@ fn image_trace(alloc: Global, words: &[String], found: &ArgMatches) -> Result<Im
     })
 }
 
-/// Whether an option is there that goes with a device, or `--bytes` without what is watched.
-fn is_other(found: &ArgMatches) -> bool {
-    found.get_str("from").is_some()
-        || found.get_str("to").is_some()
-        || (found.get_str("bytes").is_some() && found.get_str("watch").is_none())
+/// Whether an option is there that goes with a device.
+fn is_of_device(found: &ArgMatches) -> bool {
+    found.get_str("from").is_some() || found.get_str("to").is_some()
 }
 
 /// Steps of one node, from its image.
@@ -125,11 +151,12 @@ fn trace_image(alloc: Global, words: &[String], found: &ArgMatches) -> Result<As
     ensures typed { IfOk result (WasTyped words.now) }
     ensures places { IfOk result (HasPlaces words.now) }
 {
-    if is_other(found) {
+    if is_of_device(found) {
         return Err(ArgFault::Missing);
     }
-    let trace = image_trace(alloc, words, found)?;
-    has_places(words, &["trace", trace.image.as_str()])?;
+    let image = text_of(alloc, words, found, "FILE")?;
+    has_places(words, &["trace", image.as_str()])?;
+    let trace = image_trace(alloc, words, found, TraceLines::Every, image)?;
     Ok(Asked::Trace(trace))
 }
 

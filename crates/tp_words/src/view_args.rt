@@ -5,25 +5,29 @@ ghost use Rattle.tp_words.specs.Args.{HasTyped, IsInRange, IsTypedMaps, IsView, 
 ghost use Rattle.tp_words.specs.Places.{HasFoundTexts, HasPlaces, HasViewFlag, listed, places, view_command, view_places};
 
 use crate::arg_fault::ArgFault;
-use crate::args::{Asked, MAX_WORKERS};
+use crate::args::{Asked, MAX_TURNS, MAX_WORKERS};
 use crate::device_args::every_of;
-use crate::found::{flag_of, json_of, option_or, option_string, place_of, text_of, turns_of};
+use crate::found::{flag_of, json_of, option_or, option_short, option_string, place_of, text_of};
 use crate::journal_args::journal_view;
 use crate::places::has_places;
+use crate::trace_args::{TraceLines, image_trace};
 use crate::views::View;
 use clap::ArgMatches;
 use std::alloc::Global;
 
-/// Turns of one node.
+/// Turns of one node, or, if no number of turns was typed, its steps.
 pub fn asked_try(alloc: Global, words: &[String], found: &ArgMatches) -> Result<Asked, ArgFault>
     ensures range { IfOk result IsInRange }
     ensures typed { IfOk result (WasTyped words.now) }
     ensures places { IfOk result (HasPlaces words.now) }
 {
-    let turns = turns_of(alloc, words, found)?;
+    let turns = option_short(alloc, words, found, "turns", 0, MAX_TURNS)?;
     let image = text_of(alloc, words, found, "IMAGE")?;
     has_places(words, &["try", image.as_str()])?;
-    Ok(Asked::Try { image, turns })
+    match turns {
+        Some(turns) => Ok(Asked::Try { image, turns }),
+        None => Ok(Asked::Trace(image_trace(alloc, words, found, TraceLines::Sending, image)?)),
+    }
 }
 
 fn asked_recover(alloc: Global, words: &[String], found: &ArgMatches) -> Result<Asked, ArgFault>

@@ -34,6 +34,8 @@ pub enum Word {
     Value(&'static str, &'static str, &'static str),
     /// An option with a value that has to be there.
     Needed(&'static str, &'static str, &'static str),
+    /// An option with a value that may not be there beside the options of these names.
+    Alone(&'static str, &'static str, &'static [&'static str], &'static str),
     /// An option with a value that may be there for several ports.
     Many(&'static str, &'static str, &'static str),
 }
@@ -171,6 +173,9 @@ fn arg_of<'a>(alloc: Global, word: &Word) -> Result<Arg<'a>, AllocError> {
         Word::Unless(id, other, help) => flag(alloc, id, help).conflicts_with(other),
         Word::Value(id, value, help) => Ok(option(alloc, id, value, help)),
         Word::Needed(id, value, help) => Ok(option(alloc, id, value, help).required(true)),
+        Word::Alone(id, value, others, help) => {
+            option(alloc, id, value, help).conflicts_with_all(others)
+        }
         Word::Many(id, value, help) => {
             Ok(option(alloc, id, value, help).action(ArgAction::Append))
         }

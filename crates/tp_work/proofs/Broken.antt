@@ -1,13 +1,8 @@
 -- Turns that failed.
 use Rattle.std.proofs.Common.{◌≡◌, ◌≤◌, ◌<◌, ℕ, inl, inr, List, length, sym, subst}
-use Rattle.tp_model.specs.declared.entry.Entry.{Entry}
-use Rattle.tp_model.specs.NodeState.{NodeState}
-use Rattle.tp_model.specs.Network.{Network}
-use Rattle.tp_book.specs.declared.refusal.Refusal.{Refusal}
+use Rattle.tp_work.proofs.Lower.{Entry, NodeState, Network, Refusal}
 use Rattle.tp_book.specs.declared.refusal.Refusal.TheVariants as refusal
-use Rattle.tp_shared.specs.Entries.{IsTurnRefusal, AreTakes, TookAlone}
-use Rattle.tp_shared.specs.Gains.{Gained}
-use Rattle.tp_shared.specs.Holds.{InHand}
+use Rattle.tp_work.proofs.Lower.{IsTurnRefusal, AreTakes, TookAlone, Gained, InHand}
 use Rattle.tp_work.specs.Turns.{Refused, turn_fault, RefusedAt, RefusedFor, TookBefore}
 use Rattle.tp_work.specs.declared.fault.TurnFault.TheVariants.{JournalFull, StoreBroken, Memory}
 

@@ -1,3 +1,4 @@
+pub mod Lower
 pub mod Broken
 pub mod Made
 pub mod Seated

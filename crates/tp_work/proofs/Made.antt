@@ -1,14 +1,7 @@
 -- Nodes that are made of images.
 use Rattle.std.proofs.Common.{◌≡◌, ◌∙◌, ◌<◌, ℕ, List, [], ◌∷◌, ◌++◌, map, length, Option, Some, None, zero, suc, slice_get, get_or, refl, sym, ap, subst}
-use Rattle.std.specs.List.{AllZip}
 use Rattle.std.specs.Prelude.{Ok}
-use Rattle.std.proofs.lemmas.List.{get_or-map, length-map, map-append}
-use Rattle.std.proofs.lemmas.Slice.Zip.{all_zipped_more}
-use Rattle.tp_law_machine.specs.NodeOfBytes.{IsNodeOfBytes}
-use Rattle.tp_model.specs.Image.{node_at, node_of}
-use Rattle.tp_model.specs.NodeState.{NodeState}
-use Rattle.tp_node.specs.FromImage.{HasFrames, ReadsImage}
-use Rattle.tp_node.specs.NodeContents.{NodeContents}
+use Rattle.tp_work.proofs.Lower.{AllZip, get_or-map, length-map, map-append, all_zipped_more, IsNodeOfBytes, node_at, node_of, NodeState, HasFrames, ReadsImage, NodeContents}
 use Rattle.tp_work.specs.Nodes.{IsMade}
 
 pub made_of : (spare : ℕ) (bytes : List ℕ) (node : NodeContents) → node_of bytes ≡ Some (node_at bytes) → IsNodeOfBytes (node_at bytes) → ReadsImage (node_of bytes) (Ok node)

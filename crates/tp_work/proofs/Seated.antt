@@ -1,9 +1,7 @@
 -- Seats that have a hand each and no slip.
 use Rattle.std.proofs.Common.{◌≡◌, ◌∙◌, ◌<◌, List, [], map, length, sym, ap, subst, Option}
 use Rattle.std.specs.Prelude.{All, slice_index_or}
-use Rattle.std.proofs.lemmas.List.{get_or-map, length-map}
-use Rattle.tp_ready.specs.Numbers.{Numbers, HandValue}
-use Rattle.tp_ready.specs.Past.{IsNew}
+use Rattle.tp_work.proofs.Lower.{get_or-map, length-map, Numbers, HandValue, IsNew}
 use Rattle.tp_work.specs.declared.seat.Seat.{Seat}
 
 module _ {J : Type 0} where

@@ -1,17 +1,7 @@
 -- What sessions do in one hold of the book's lock.
-use Rattle.std.proofs.Common.{◌≡◌, ◌<◌, ℕ, ◌+◌, List, [], ◌∷◌, ◌++◌, length, Result, Ok, Err, sym, ap, subst, ◌∙◌, append_assoc}
-use Rattle.std.specs.List.{enumerate_from}
-use Rattle.std.specs.Prelude.{IfOk, OnErr, Vec, vec_len}
-use Rattle.std.specs.declared.alloc.Global.{Global}
-use Rattle.tp_model.specs.declared.entry.Entry.{Entry}
-use Rattle.tp_model.specs.NodeState.{NodeState}
-use Rattle.tp_model.specs.Network.{Network}
-use Rattle.tp_book.specs.Book.{BookValue, next_in_book}
-use Rattle.tp_book.specs.Host.{shown_from, ShowsUpto}
-use Rattle.tp_shared.specs.Below.{AreBelow}
-use Rattle.tp_shared.specs.Gains.{HoldNoted}
-use Rattle.tp_book.specs.Covered.{ReceiptValue}
-use Rattle.tp_shared.specs.Seals.{IsTied, Stage}
+use Rattle.std.proofs.Common.{◌≡◌, ◌<◌, ℕ, ◌+◌, List, [], ◌∷◌, ◌++◌, length, Result, Err, sym, ap, subst, ◌∙◌, append_assoc}
+use Rattle.std.specs.Prelude.{Ok, IfOk, OnErr, Vec, vec_len}
+use Rattle.tp_work.proofs.Lower.{enumerate_from, Entry, NodeState, Network, BookValue, next_in_book, shown_from, ShowsUpto, AreBelow, HoldNoted, ReceiptValue, IsTied, Stage, Global}
 use Rattle.tp_work.specs.Sessions.{DidJust, HasPort, ShowsJust}
 use Rattle.tp_work.specs.declared.host_fault.ShownFault.{ShownFault}
 

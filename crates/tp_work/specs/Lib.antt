@@ -1,3 +1,4 @@
+pub mod Lower
 pub mod Answers
 pub mod Nodes
 pub mod Offers

@@ -1,9 +1,6 @@
 -- Nodes of an opened device.
 use Rattle.std.specs.Prelude.{◌≡◌, ℕ, None}
-use Rattle.tp_law_machine.specs.NodeOfBytes.{IsNodeOfBytes}
-use Rattle.tp_model.specs.NodeState.{NodeState}
-use Rattle.tp_node.specs.FromImage.{HasFrames}
-use Rattle.tp_node.specs.NodeContents.{NodeContents}
+use Rattle.tp_work.specs.Lower.{IsNodeOfBytes, NodeState, HasFrames, NodeContents}
 
 -- A node in this state, not frozen, with an image and `spare` spare frames, but at most as many as pages.
 pub record IsMade (spare : ℕ) (state : NodeState) (node : NodeContents) : Type 0 where

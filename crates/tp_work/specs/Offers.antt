@@ -1,9 +1,6 @@
 -- Why offers fail.
 use Rattle.std.specs.Prelude.{◌<◌, ℕ, ◌==◌, nat_lt, if◌then◌else◌, Option, Some, None}
-use Rattle.tp_book.specs.Book.{BookValue}
-use Rattle.tp_book.specs.Host.{accepted_of, port_in, room_of}
-use Rattle.tp_book.specs.Refusals.{is_journal_full}
-use Rattle.tp_book.specs.declared.refusal.Refusal.{Refusal}
+use Rattle.tp_work.specs.Lower.{BookValue, accepted_of, port_in, room_of, is_journal_full, Refusal}
 use Rattle.tp_book.specs.declared.refusal.Refusal.TheVariants as refusal
 use Rattle.tp_work.specs.declared.host_fault.OfferFault.{OfferFault}
 use Rattle.tp_work.specs.declared.host_fault.OfferFault.TheVariants.{Already, Gap, PortFull, JournalFull, StoreBroken, Memory}

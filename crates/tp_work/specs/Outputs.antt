@@ -1,9 +1,6 @@
 -- Why outputs aren't shown, or can't be confirmed.
 use Rattle.std.specs.Prelude.{ℕ, nat_lt, nat_le, if◌then◌else◌, Option, Some, None}
-use Rattle.tp_book.specs.Book.{BookValue}
-use Rattle.tp_book.specs.Host.{port_in, shown_upto_of}
-use Rattle.tp_book.specs.Refusals.{is_journal_full}
-use Rattle.tp_book.specs.declared.refusal.Refusal.{Refusal}
+use Rattle.tp_work.specs.Lower.{BookValue, port_in, shown_upto_of, is_journal_full, Refusal}
 use Rattle.tp_book.specs.declared.refusal.Refusal.TheVariants as refusal
 use Rattle.tp_work.specs.declared.host_fault.ConfirmFault.{ConfirmFault}
 use Rattle.tp_work.specs.declared.host_fault.ConfirmFault.TheVariants.{NotShown, JournalFull, StoreBroken, Memory}

@@ -1,10 +1,6 @@
 -- What a turn does with the numbers of processes.
 use Rattle.std.specs.Prelude.{◌≡◌, ℕ, List, [], ◌∷◌, ◌++◌, Some}
-use Rattle.tp_ready.specs.Answered.{answer}
-use Rattle.tp_ready.specs.Numbers.{Numbers}
-use Rattle.tp_ready.specs.Past.{Past, HasCalled}
-use Rattle.tp_ready.specs.declared.answers.Answer.{Answer}
-use Rattle.tp_ready.specs.declared.call.Step.TheVariants.{Took, Put}
+use Rattle.tp_work.specs.Lower.{answer, Numbers, Past, HasCalled, Answer, Took, Put}
 use Rattle.tp_work.specs.declared.fault.TurnFault.{TurnFault}
 use Rattle.tp_work.specs.declared.fault.TurnFault.TheVariants.{Empty, JournalFull, StoreBroken, Memory}
 

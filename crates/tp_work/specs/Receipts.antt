@@ -1,9 +1,6 @@
 -- What a receipt is for.
 use Rattle.std.specs.Prelude.{◌≡◌, ℕ, ◌+◌, List, ◌++◌, length}
-use Rattle.std.specs.List.{enumerate_from}
-use Rattle.tp_model.specs.declared.entry.Entry.{Entry}
-use Rattle.tp_book.specs.Covered.{ReceiptValue}
-use Rattle.tp_shared.specs.Below.{AreBelow}
+use Rattle.tp_work.specs.Lower.{enumerate_from, Entry, ReceiptValue, AreBelow}
 
 -- A seat got the slips of exactly the entries. Their numbers follow one another and are above all that the seat had. The receipt's number
 -- is the next one after them.

@@ -1,18 +1,6 @@
 -- What a session's calls found and did, in books that were seen under their lock.
 use Rattle.std.specs.Prelude.{◌≡◌, ◌<◌, ◌≤◌, ℕ, ◌+◌, List, [], ◌∷◌, ◌++◌, length, map, Result, Ok, Err, IsOk, Vec, vec_len}
-use Rattle.std.specs.declared.alloc.Global.{Global}
-use Rattle.std.specs.List.{enumerate_from}
-use Rattle.tp_model.specs.declared.entry.Entry.{Entry}
-use Rattle.tp_model.specs.declared.entry.Entry.TheVariants.{HostIn}
-use Rattle.tp_model.specs.NodeState.{NodeState}
-use Rattle.tp_model.specs.Network.{Network}
-use Rattle.tp_book.specs.Acts.{confirm_entries}
-use Rattle.tp_book.specs.Book.{BookValue, next_in_book}
-use Rattle.tp_book.specs.Host.{after_confirm, after_inputs, accepted_of, port_in, shown_from, ShowsUpto}
-use Rattle.tp_book.specs.Covered.{ReceiptValue}
-use Rattle.tp_book.specs.Receipts.{confirm_receipt, input_receipt}
-use Rattle.tp_shared.specs.Below.{AreBelow}
-use Rattle.tp_shared.specs.Holds.{InHand}
+use Rattle.tp_work.specs.Lower.{Global, enumerate_from, Entry, HostIn, NodeState, Network, confirm_entries, BookValue, next_in_book, after_confirm, after_inputs, accepted_of, port_in, shown_from, ShowsUpto, ReceiptValue, confirm_receipt, input_receipt, AreBelow, InHand}
 use Rattle.tp_work.specs.Answers.{RefusesFor}
 use Rattle.tp_work.specs.Offers.{offer_fault}
 use Rattle.tp_work.specs.Outputs.{confirm_fault, shown_fault}

@@ -1,19 +1,8 @@
 -- What a turn does to a seat.
 use Rattle.std.specs.Prelude.{◌≡◌, ◌<◌, ◌≤◌, ◌⊎◌, ℕ, List, [], ◌∷◌, ◌++◌, length, Option, Some, None, Ok, Err}
-use Rattle.tp_model.specs.declared.entry.Entry.{Entry}
-use Rattle.tp_model.specs.NodeState.{NodeState}
-use Rattle.tp_model.specs.Network.{Network}
-use Rattle.tp_node.specs.RunEnd.{RunEnd}
-use Rattle.tp_book.specs.declared.refusal.Refusal.{Refusal}
+use Rattle.tp_work.specs.Lower.{Entry, NodeState, Network, RunEnd, Refusal}
 use Rattle.tp_book.specs.declared.refusal.Refusal.TheVariants as refusal
-use Rattle.tp_ready.specs.Answered.{answer}
-use Rattle.tp_ready.specs.Numbers.{Numbers}
-use Rattle.tp_ready.specs.declared.answers.Answer.{Answer}
-use Rattle.tp_shared.specs.Entries.{AreTakes, CountedTakes, TookAtOnce}
-use Rattle.tp_shared.specs.Gains.{Gained}
-use Rattle.tp_shared.specs.Holds.{InHand}
-use Rattle.tp_shared.specs.NodeTurned.{NodeTurned}
-use Rattle.tp_shared.specs.TurnsMade.{TurnMade, TurnBrokenOff, HostTurnMade}
+use Rattle.tp_work.specs.Lower.{answer, Numbers, Answer, AreTakes, CountedTakes, TookAtOnce, Gained, InHand, NodeTurned, TurnMade, TurnBrokenOff, HostTurnMade}
 use Rattle.tp_work.specs.declared.fault.TurnFault.{TurnFault}
 use Rattle.tp_work.specs.declared.fault.TurnFault.TheVariants.{Empty, JournalFull, StoreBroken, Memory}
 use Rattle.tp_work.specs.declared.turn.Turn.{Turn}

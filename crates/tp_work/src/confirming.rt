@@ -1,11 +1,7 @@
 //! Outputs that a host confirms.
 
 ghost use Rattle.std.specs.Prelude.{◌≡◌, ◌<◌, ◌≤◌, length, IsOk, IfOk, OnErr};
-ghost use Rattle.tp_book.specs.Book.{next_in_book};
-ghost use Rattle.tp_book.specs.Host.{after_confirm, port_in};
-ghost use Rattle.tp_book.specs.Acts.{confirm_entries};
-ghost use Rattle.tp_book.specs.Receipts.{confirm_receipt};
-ghost use Rattle.tp_shared.specs.Gains.{HoldNoted};
+ghost use Rattle.tp_work.specs.Lower.{next_in_book, after_confirm, port_in, confirm_entries, confirm_receipt, HoldNoted};
 ghost use Rattle.tp_work.specs.Answers.{RefusesFor};
 ghost use Rattle.tp_work.specs.Outputs.{confirm_fault};
 ghost use Rattle.tp_work.specs.Receipts.{IsFor};

@@ -1,8 +1,8 @@
 //! Why a turn fails.
 
 ghost use Rattle.std.specs.Prelude.{◌≡◌};
-ghost use Rattle.tp_work.specs.Turns.{turn_fault};
 ghost use Rattle.tp_shared.specs.Entries.{IsTurnRefusal};
+ghost use Rattle.tp_work.specs.Turns.{turn_fault};
 
 use thiserror::Error;
 use tp_book::Refusal;

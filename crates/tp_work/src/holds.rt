@@ -1,8 +1,7 @@
 //! What sessions do under the book's lock. The book is seen before and after that.
 
 ghost use Rattle.std.specs.Prelude.{◌≡◌, ◌<◌, ◌⊎◌, ◌∷◌, [], length, map, Some, IfOk, IfErr};
-ghost use Rattle.tp_model.specs.declared.entry.Entry.TheVariants.{HostIn, Confirm};
-ghost use Rattle.tp_shared.specs.Holds.{in_hand};
+ghost use Rattle.tp_work.specs.Lower.{HostIn, Confirm, in_hand};
 ghost use Rattle.tp_work.specs.Receipts.{IsFor};
 ghost use Rattle.tp_work.specs.Offers.{IsReason};
 ghost use Rattle.tp_work.specs.Sessions.{ConfirmedIn, OfferedIn, ShownIn};

@@ -1,8 +1,7 @@
 //! A network in threads, and its turns.
 
 ghost use Rattle.std.specs.Prelude.{◌≡◌, ◌≤◌, ◌+◌, [], Some, length, IfOk, MatchResult};
-ghost use Rattle.tp_model.specs.declared.limits.TheConstants.{MAX_STEPS};
-ghost use Rattle.tp_shared.specs.Holds.{in_hand};
+ghost use Rattle.tp_work.specs.Lower.{MAX_STEPS, in_hand};
 ghost use Rattle.tp_work.specs.PutBack.{PutBack, PutBackBehind};
 ghost use Rattle.tp_work.specs.Turns.{Turned, Refused, Handed, TurnWent, RefusedFor, RefusedBy};
 

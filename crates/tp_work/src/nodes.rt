@@ -1,11 +1,7 @@
 //! The nodes of an opened device.
 
 ghost use Rattle.std.specs.Prelude.{◌≡◌, ℕ, Some, None, map, slice_get, IfOk};
-ghost use Rattle.tp_book.specs.Opened.{now_of, IsWellOpen};
-ghost use Rattle.tp_law_machine.specs.NodeOfBytes.{IsNodeOfBytes};
-ghost use Rattle.tp_model.specs.Image.{node_at, node_of};
-ghost use Rattle.tp_node.specs.FromImage.{HasFrames};
-ghost use Rattle.tp_node.specs.NodeContents.{NodeContents};
+ghost use Rattle.tp_work.specs.Lower.{now_of, IsWellOpen, IsNodeOfBytes, node_at, node_of, HasFrames, NodeContents};
 ghost use Rattle.tp_work.specs.Nodes.{IsMade};
 
 use std::alloc::{AllocError, Global};

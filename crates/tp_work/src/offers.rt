@@ -1,12 +1,7 @@
 //! Bytes that a host offers to a port.
 
 ghost use Rattle.std.specs.Prelude.{◌≡◌, ◌<◌, length, map, Some, IsOk, IfOk, IfErr, OnErr};
-ghost use Rattle.tp_book.specs.Book.{next_in_book};
-ghost use Rattle.tp_book.specs.Host.{accepted_of, after_inputs, input_refusal, port_in, room_of};
-ghost use Rattle.tp_book.specs.Receipts.{input_receipt};
-ghost use Rattle.tp_book.specs.Refusals.{IsAnswer};
-ghost use Rattle.tp_model.specs.declared.entry.Entry.TheVariants.{HostIn};
-ghost use Rattle.tp_shared.specs.Gains.{HoldNoted};
+ghost use Rattle.tp_work.specs.Lower.{next_in_book, accepted_of, after_inputs, input_refusal, port_in, room_of, input_receipt, IsAnswer, HostIn, HoldNoted};
 ghost use Rattle.tp_work.specs.Answers.{RefusesFor};
 ghost use Rattle.tp_work.specs.Offers.{IsReason, offer_fault};
 ghost use Rattle.tp_work.specs.Receipts.{IsFor};

@@ -1,9 +1,7 @@
 //! Sessions of the host.
 
 ghost use Rattle.std.specs.Prelude.{◌≡◌, ◌<◌, ◌≤◌, ◌⊎◌, ◌∷◌, [], ◌↔◌, IsTrue, length, map, Some, None, IsSome, IfSome, IfOk, IfErr, MatchResult};
-ghost use Rattle.tp_model.specs.declared.entry.Entry.TheVariants.{HostIn, Confirm};
-ghost use Rattle.tp_ready.specs.Seen.{RisesOn, number_of};
-ghost use Rattle.tp_shared.specs.Holds.{in_hand};
+ghost use Rattle.tp_work.specs.Lower.{HostIn, Confirm, RisesOn, number_of, in_hand};
 ghost use Rattle.tp_work.specs.Receipts.{IsFor};
 ghost use Rattle.tp_work.specs.Offers.{IsReason};
 ghost use Rattle.tp_work.specs.Sessions.{ConfirmedIn, OfferedIn, ShownIn};

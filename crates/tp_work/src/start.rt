@@ -1,11 +1,7 @@
 //! How a network in threads begins.
 
 ghost use Rattle.std.specs.Prelude.{◌≡◌, ◌<◌, ◌≤◌, [], All, IfOk, Some, map, vec_len};
-ghost use Rattle.tp_model.specs.declared.limits.TheConstants.{MAX_STEPS};
-ghost use Rattle.tp_ready.specs.Past.{IsNew};
-ghost use Rattle.tp_shared.specs.Frozen.{frozen_in};
-ghost use Rattle.tp_shared.specs.Named.{Names};
-ghost use Rattle.tp_shared.specs.Told.{told_of};
+ghost use Rattle.tp_work.specs.Lower.{MAX_STEPS, IsNew, frozen_in, Names, told_of};
 ghost use Rattle.tp_work.specs.declared.start.TheConstants.{MAX_SEATS};
 
 use crate::net::Net;

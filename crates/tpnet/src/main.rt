@@ -23,7 +23,7 @@ use std::io::{IsTerminal, Write};
 use std::process::ExitCode;
 use std::rt::Env;
 use std::{env, io};
-use tp_program::answer_locking;
+use tp_program::{FileDevices, answer_over};
 use waiting::Patient;
 use watching::Watcher;
 
@@ -67,12 +67,12 @@ fn main(rt: HostRuntime) -> ExitCode {
     let mut looker = Looker::new(&rt, backlog.shared(), err.is_terminal(), out.is_terminal());
     let mut out = Printing::new(&rt, Patient::new(rt, out), backlog.shared());
     let mut err = Apart::new(rt, err, backlog);
-    let locks = SystemLocks::new(&rt);
+    let mut devices = FileDevices::new(&system, SystemLocks::new(&rt));
     let mut watch = Watcher::new(&rt);
     let mut feed = Late::new(rt);
-    let status = answer_locking(
+    let status = answer_over(
         &system,
-        locks,
+        &mut devices,
         &mut watch,
         words.as_slice(),
         &mut feed,
@@ -80,6 +80,8 @@ fn main(rt: HostRuntime) -> ExitCode {
         &mut err,
         &mut looker,
     );
+    let _ = err.flush();
+    drop(devices);
     err.end();
     ExitCode::from(status)
 }

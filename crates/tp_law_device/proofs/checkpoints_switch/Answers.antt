@@ -1,7 +1,4 @@
-use Rattle.tp_model.specs.Node.{t414, t414_ends}
-use Rattle.tp_model.specs.Opening.{verdict}
-use Rattle.tp_model.specs.DeviceAreas.{other_content}
-use Rattle.tp_model.specs.Runs.{copy_of}
+use Rattle.tp_law_device.proofs.Lower.{t414, t414_ends, verdict, other_content, copy_of}
 use Rattle.tp_law_device.proofs.Stand.{spelt_area}
 use Rattle.tp_law_device.proofs.Checkpoints.{spells_reads, other_spelt, checkpoint_switches}
 use Rattle.tp_law_device.proofs.FirstCheckpoints.{first_checkpoint, one_snapshot}

@@ -1,8 +1,4 @@
-use Rattle.tp_law_machine.proofs.LinkLaws.{has_four_links, never_marks}
-use Rattle.tp_model.specs.Node.{t414, t414_ends}
-use Rattle.tp_model.specs.DeviceAreas.{device_areas}
-use Rattle.tp_law_network.proofs.Swap.{swaps_agree}
-use Rattle.tp_law_network.proofs.Happens.{cut_after, whole_after}
+use Rattle.tp_law_device.proofs.Lower.{has_four_links, never_marks, t414, t414_ends, device_areas, swaps_agree, cut_after, whole_after}
 use Rattle.tp_law_network.proofs.Runs as Runs
 use Rattle.tp_law_network.proofs.Acknowledged as Acknowledged
 use Rattle.tp_law_device.proofs.Holds.{areas_keep}

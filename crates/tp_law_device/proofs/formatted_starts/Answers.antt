@@ -1,7 +1,4 @@
-use Rattle.tp_law_machine.proofs.LinkLaws.{has_four_links, never_marks}
-use Rattle.tp_model.specs.Node.{t414, t414_ends}
-use Rattle.tp_model.specs.DeviceAreas.{device_areas}
-use Rattle.tp_law_network.proofs.Runs.{run_recovers}
+use Rattle.tp_law_device.proofs.Lower.{has_four_links, never_marks, t414, t414_ends, device_areas, run_recovers}
 use Rattle.tp_law_device.specs.FormattedWorld.{formatted_world}
 use Rattle.tp_law_device.proofs.Formatted.{formatted_form, formatted_stands, formatted_starts}
 use Rattle.tp_law_device.proofs.Holds.{areas_keep}

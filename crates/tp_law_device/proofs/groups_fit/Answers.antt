@@ -1,7 +1,6 @@
 use Rattle.std.proofs.Common.{ℕ, ◌≡◌, ◌≤◌, ◌+◌, ◌*◌, Bool, true, false, refl}
 use Rattle.std.specs.Prelude.{◌||◌, nat_lt}
-use Rattle.std.proofs.lemmas.Bool.{ltb-false}
-use Rattle.tp_model.specs.Journal.{entry_room, reserve, has_no_numbers}
+use Rattle.tp_law_device.proofs.Lower.{ltb-false, entry_room, reserve, has_no_numbers}
 use Rattle.tp_law_device.proofs.GroupsFit as GroupsFit
 use Rattle.tp_law_device.proofs.groups_fit.Goals as goal
 

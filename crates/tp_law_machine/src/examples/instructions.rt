@@ -1,11 +1,7 @@
 //! Instructions as bytes, and what some of them do to the registers.
 
 ghost use Rattle.std.specs.Prelude.{◌≡◌, ◌++◌, [], ◌∷◌, pos, negsuc, true, replicate};
-ghost use Rattle.tp_model.specs.declared.instruction.Fun.TheVariants.{Ldc, Opr};
-ghost use Rattle.tp_model.specs.declared.instruction.Op.TheVariants.{Add, Sum, Div, Rem, Lsum, Lmul, Ldiv};
-ghost use Rattle.tp_model.specs.declared.instruction.DecodeFault.TheVariants.{NeedMore, LongPrefix, UnknownOp};
-ghost use Rattle.tp_model.specs.Coding.{decoded, spelling};
-ghost use Rattle.tp_model.specs.Registers.{op_row, error_if};
+ghost use Rattle.tp_law_machine.specs.Lower.{Ldc, Opr, Add, Sum, Div, Rem, Lsum, Lmul, Ldiv, NeedMore, LongPrefix, UnknownOp, decoded, spelling, op_row, error_if};
 ghost use Rattle.tp_law_machine.specs.Start.{regs};
 
 /// Operands from 0 on and below 0, a spelling that is longer than it has to be, and an operation.

@@ -2,16 +2,7 @@
 #![tactic(auto, unfolding(tp_model::specs::EntryBytes::entry_at, tp_model::specs::Group::rows_at, tp_model::specs::Group::rows_behind, tp_model::specs::Image::image_head))]
 
 ghost use Rattle.std.specs.Prelude.{◌≡◌, ◌++◌, [], ◌∷◌, true, false, take, drop};
-ghost use Rattle.tp_model.specs.declared.link.Token.TheVariants.{Data, Ack};
-ghost use Rattle.tp_model.specs.declared.link.Received.TheVariants.{Nothing, JustData, JustAck, DataThenAck, AckThenData};
-ghost use Rattle.tp_model.specs.declared.form.Form.TheVariants.{Plain};
-ghost use Rattle.tp_model.specs.declared.entry.Entry.TheVariants.{Run, Take, HostIn, Confirm, Turn};
-ghost use Rattle.tp_model.specs.Bytes.{zeros};
-ghost use Rattle.tp_model.specs.EntryBytes.{entry_at};
-ghost use Rattle.tp_model.specs.Replay.{row_entry};
-ghost use Rattle.tp_model.specs.Group.{rows_of, group_bytes, group_at};
-ghost use Rattle.tp_model.specs.Image.{image_head};
-ghost use Rattle.tp_model.specs.Journal.{cut_length, room, is_full, is_full_for_cut};
+ghost use Rattle.tp_law_machine.specs.Lower.{Data, Ack, Nothing, JustData, JustAck, DataThenAck, AckThenData, Plain, Run, Take, HostIn, Confirm, Turn, zeros, entry_at, row_entry, rows_of, group_bytes, group_at, image_head, cut_length, room, is_full, is_full_for_cut};
 ghost use Rattle.tp_law_machine.specs.Transfers.{sending_node};
 ghost use Rattle.tp_law_machine.specs.OneNode.{one_node};
 ghost use Rattle.tp_law_machine.specs.OneGroup.{short_run};

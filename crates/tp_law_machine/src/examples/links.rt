@@ -2,11 +2,7 @@
 #![tactic(auto, unfolding(tp_model::specs::Step::step_of, tp_model::specs::Node::node_step, tp_model::specs::Node::took, tp_model::specs::Network::steps))]
 
 ghost use Rattle.std.specs.Prelude.{◌≡◌, [], ◌∷◌};
-ghost use Rattle.tp_model.specs.declared.processor.Fault.TheVariants.{BadAddress, LinkBusy};
-ghost use Rattle.tp_model.specs.declared.link.Token.TheVariants.{Data, Ack};
-ghost use Rattle.tp_model.specs.declared.link.InEnd.TheVariants.{Idle, Enabled};
-ghost use Rattle.tp_model.specs.Network.{steps};
-ghost use Rattle.tp_model.specs.Node.{t414, took, halted};
+ghost use Rattle.tp_law_machine.specs.Lower.{BadAddress, LinkBusy, Data, Ack, Idle, Enabled, steps, t414, took, halted};
 ghost use Rattle.tp_law_machine.specs.Start.{queue};
 ghost use Rattle.tp_law_machine.specs.Transfers.{sending_node, awaits, has_sent, jumps, has_jumped, gets, has_got_one, has_got_first, has_got_both, has_got_none, puts};
 ghost use Rattle.tp_law_machine.specs.Choosing.{hears, has_heard, cannot_queue};

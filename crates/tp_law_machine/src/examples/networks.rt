@@ -1,10 +1,7 @@
 //! Networks, their entries and a snapshot.
 
 ghost use Rattle.std.specs.Prelude.{◌≡◌};
-ghost use Rattle.tp_model.specs.Node.{t414};
-ghost use Rattle.tp_model.specs.Order.{after};
-ghost use Rattle.tp_model.specs.Runs.{fresh};
-ghost use Rattle.tp_model.specs.Acts.{acted};
+ghost use Rattle.tp_law_machine.specs.Lower.{t414, after, fresh, acted};
 ghost use Rattle.tp_law_machine.specs.OneNode.{one_before, one_byte, one_after};
 ghost use Rattle.tp_law_machine.specs.BothWays.{question_before, question, question_after};
 ghost use Rattle.tp_law_machine.specs.TwoNodes.{two_before, one_snapshot, book_after};

@@ -1,11 +1,7 @@
 //! What opening a device answers.
 
 ghost use Rattle.std.specs.Prelude.{◌≡◌, [], ◌∷◌, take};
-ghost use Rattle.tp_model.specs.declared.form.Form.TheVariants.{Plain, Turns};
-ghost use Rattle.tp_model.specs.declared.head.HeadVersion.TheVariants.{Narrow, Wide};
-ghost use Rattle.tp_model.specs.declared.opening.OpenFault.TheVariants.{NotFormatted, BadVersion, NoOpenArea, Damaged};
-ghost use Rattle.tp_model.specs.Memory.{set_byte};
-ghost use Rattle.tp_model.specs.Opening.{verdict};
+ghost use Rattle.tp_law_machine.specs.Lower.{Plain, Turns, Narrow, Wide, NotFormatted, BadVersion, NoOpenArea, Damaged, set_byte, verdict};
 ghost use Rattle.tp_law_machine.specs.OneDevice.{device_of, device_with, four_entries, fresh_device, later_device, opened_as};
 
 /// Formatted devices with one fault each:

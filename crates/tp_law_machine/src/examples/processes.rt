@@ -2,8 +2,7 @@
 #![tactic(auto, unfolding(tp_model::specs::Step::step_of, tp_model::specs::Node::node_step, tp_model::specs::Network::steps))]
 
 ghost use Rattle.std.specs.Prelude.{◌≡◌, []};
-ghost use Rattle.tp_model.specs.Network.{steps};
-ghost use Rattle.tp_model.specs.Node.{t414};
+ghost use Rattle.tp_law_machine.specs.Lower.{steps, t414};
 ghost use Rattle.tp_law_machine.specs.Processes.{about_to_run_another, has_run_another, at_loop_end, after_loop_end};
 ghost use Rattle.tp_law_machine.specs.Meeting.{sender_first, getter_first, sender_waited, getter_waited};
 ghost use Rattle.tp_law_machine.specs.Choosing.{choosing, may_choose, has_chosen};

@@ -1,8 +1,7 @@
 //! Topologies as texts.
 
 ghost use Rattle.std.specs.Prelude.{◌≡◌, [], ◌∷◌, codes};
-ghost use Rattle.tp_model.specs.declared.topology.NetFault.TheVariants.{Syntax, TwoWires, UnknownNode};
-ghost use Rattle.tp_model.specs.TopologyText.{read_text};
+ghost use Rattle.tp_law_machine.specs.Lower.{Syntax, TwoWires, UnknownNode, read_text};
 ghost use Rattle.tp_law_machine.specs.OneNode.{one_node};
 ghost use Rattle.tp_law_machine.specs.Text.{text};
 

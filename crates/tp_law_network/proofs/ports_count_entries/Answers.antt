@@ -1,5 +1,4 @@
-use Rattle.tp_model.specs.Node.{t414}
-use Rattle.tp_law_machine.proofs.LinkLaws.{has_four_links}
+use Rattle.tp_law_network.proofs.Lower.{t414, has_four_links}
 use Rattle.tp_law_network.proofs.Counted.{after_counted}
 use Rattle.tp_law_network.proofs.ports_count_entries.Goals as goal
 

@@ -1,5 +1,4 @@
-use Rattle.tp_model.specs.Node.{t414}
-use Rattle.tp_law_machine.proofs.LinkLaws.{has_four_links}
+use Rattle.tp_law_processes.proofs.Lower.{t414, has_four_links}
 use Rattle.tp_law_processes.proofs.Outputs.{after_grown}
 use Rattle.tp_law_processes.proofs.ports_put_out.Goals as goal
 

@@ -1,6 +1,5 @@
 use Rattle.std.proofs.Common.{[], ◌∷◌, ◌++◌, None, take, map, length, sym, ap, ◌∙◌, arith}
-use Rattle.std.proofs.lemmas.List.{length-map, length-take-le, map_more, take_all}
-use Rattle.tp_model.specs.Head.{end_number}
+use Rattle.tp_area.proofs.Lower.{length-map, length-take-le, map_more, take_all, end_number}
 use Rattle.tp_area.proofs.end.end_numbers.Goals as goal
 
 pub end_number-requires : goal.end_number-requires

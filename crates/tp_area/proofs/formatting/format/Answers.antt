@@ -1,12 +1,7 @@
 use Rattle.std.proofs.Common.{◌≡◌, ◌∙◌, ℕ, List, Vec, Global, map, length, true, sym, ap, subst, Ok}
 use Rattle.std.specs.Prelude.{sum_by}
-use Rattle.tp_model.specs.Journal.{image_length}
+use Rattle.tp_area.proofs.Lower.{image_length, fresh_nodes, fits_device, LeavesOnly, areas_of_length, head_bytes, version_for, TwoAreas}
 use Rattle.tp_area.specs.Formatting.{Checks, Formatted, IsOldOrNew}
-use Rattle.tp_model.specs.Format.{fresh_nodes}
-use Rattle.tp_model.specs.Device.{fits_device}
-use Rattle.tp_model.specs.DiskHistory.{LeavesOnly}
-use Rattle.tp_model.specs.Head.{areas_of_length, head_bytes, version_for}
-use Rattle.tp_model.specs.declared.areas.TwoAreas.{TwoAreas}
 use Rattle.tp_area.proofs.FormatBytes.{start_with, checked_length, formatted_by, format_leaves, early_leaves, answers_done}
 use Rattle.tp_area.proofs.formatting.format.Goals as goal
 

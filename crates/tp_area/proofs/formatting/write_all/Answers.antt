@@ -1,8 +1,6 @@
 use Rattle.std.proofs.Common.{◌+◌, ◌*◌, arith, ◌++◌, ◌∷◌, []}
 use Rattle.std.specs.Prelude.{flat_map}
-use Rattle.tp_model.specs.Bytes.{zeros}
-use Rattle.tp_model.specs.Disk.{Write, Sync}
-use Rattle.tp_model.specs.StoreCalls.{Called}
+use Rattle.tp_area.proofs.Lower.{zeros, Write, Sync, Called}
 use Rattle.tp_area.specs.Formatting.{area_front, with_areas, Wrote}
 use Rattle.tp_area.specs.Puts.{ButFor}
 use Rattle.tp_area.proofs.Results.{from_ok}

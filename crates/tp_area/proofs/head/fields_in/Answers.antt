@@ -1,7 +1,5 @@
-use Rattle.std.proofs.Common.{ap, ◌∙◌, sym}
-use Rattle.std.proofs.lemmas.Bool.{cond-true, cond-false}
-use Rattle.std.specs.Prelude.{None}
-use Rattle.tp_model.specs.Head.{areas_of_length}
+use Rattle.std.proofs.Common.{ap, ◌∙◌, sym, None}
+use Rattle.tp_area.proofs.Lower.{cond-true, cond-false, areas_of_length}
 use Rattle.tp_area.proofs.Heads.{fields_in-none, fields_in-said}
 use Rattle.tp_area.proofs.head.fields_in.Goals as goal
 

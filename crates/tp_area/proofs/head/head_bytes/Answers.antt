@@ -1,6 +1,5 @@
 use Rattle.std.proofs.Common.{◌++◌, ap, ◌∙◌, arith, length, length-take}
-use Rattle.tp_net.proofs.Topologies.{has_shape, end_number-bound}
-use Rattle.tp_law_device.proofs.Heads.{keeps_nodes}
+use Rattle.tp_area.proofs.Lower.{has_shape, end_number-bound, keeps_nodes}
 use Rattle.tp_area.proofs.HeadBytes.{head_bytes-put, numbers_low, numbers_room}
 use Rattle.tp_area.proofs.head.head_bytes.Goals as goal
 

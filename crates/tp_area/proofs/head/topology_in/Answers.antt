@@ -1,5 +1,4 @@
-use Rattle.std.proofs.Common.{◌∙◌, sym, arith, inl, inr}
-use Rattle.std.specs.Prelude.{None}
+use Rattle.std.proofs.Common.{◌∙◌, sym, arith, inl, inr, None}
 use Rattle.std.proofs.lemmas.Bool.{cond-true, cond-false}
 use Rattle.tp_area.proofs.Heads.{not_numbers, not_said, topology_at-none, topology_at-read, topology_at-said, topology_at-unsaid}
 use Rattle.tp_area.proofs.head.topology_in.Goals as goal

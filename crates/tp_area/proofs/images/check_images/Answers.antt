@@ -1,7 +1,5 @@
-use Rattle.std.proofs.Common.{rules, ◌≡◌, ◌∙◌, ◌<◌, subst, ℕ, List, Vec, Global, length, get_or, map, sym, ap, arith}
-use Rattle.std.proofs.lemmas.List.{length-map, get_or-map, get_or_default}
-use Rattle.std.specs.Prelude.{Err}
-use Rattle.tp_model.specs.Format.{fresh_nodes}
+use Rattle.std.proofs.Common.{rules, ◌≡◌, ◌∙◌, ◌<◌, subst, ℕ, List, Vec, Global, length, get_or, map, sym, ap, arith, Err}
+use Rattle.tp_area.proofs.Lower.{length-map, get_or-map, get_or_default, fresh_nodes}
 use Rattle.tp_area.specs.Formatting.{Checks}
 use Rattle.tp_area.proofs.FreshImages.{bad_image, fresh_counts, fresh_none, image_passed, image_refused, some_checks}
 use Rattle.tp_area.proofs.images.check_images.Goals as goal

@@ -1,5 +1,4 @@
-use Rattle.tp_model.specs.Node.{t414, t414_ends}
-use Rattle.tp_model.specs.Opening.{verdict}
+use Rattle.tp_area.proofs.Lower.{t414, t414_ends, verdict}
 use Rattle.tp_area.proofs.OpenedPlace.{opening_place}
 use Rattle.tp_area.proofs.laws.open_devices_say_their_place.Goals as goal
 

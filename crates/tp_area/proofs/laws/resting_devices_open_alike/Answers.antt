@@ -1,11 +1,5 @@
 use Rattle.std.proofs.Common.{sym, ap, subst}
-use Rattle.std.specs.Option.{option_map}
-use Rattle.std.specs.Result.{result_ok}
-use Rattle.tp_model.specs.Node.{t414}
-use Rattle.tp_model.specs.Disk.{AreWithin}
-use Rattle.tp_model.specs.Opening.{held_of, verdict}
-use Rattle.tp_model.specs.DeviceAreas.{device_areas}
-use Rattle.tp_law_network.proofs.Device.{rests_may}
+use Rattle.tp_area.proofs.Lower.{option_map, result_ok, t414, AreWithin, held_of, verdict, device_areas, rests_may}
 use Rattle.tp_area.proofs.StoreCrashes.{keep}
 use Rattle.tp_area.proofs.laws.resting_devices_open_alike.Goals as goal
 

@@ -1,7 +1,6 @@
-use Rattle.std.proofs.Common.{◌≡◌, ◌++◌, [], take, take_all, true, sym, ap, ◌∙◌, arith}
+use Rattle.std.proofs.Common.{◌≡◌, ◌++◌, [], take, true, sym, ap, ◌∙◌, arith}
 use Rattle.std.specs.Prelude.{flat_map}
-use Rattle.tp_model.specs.CutImage.{line_bytes}
-use Rattle.tp_model.specs.Spelling.{has_record}
+use Rattle.tp_area.proofs.Lower.{take_all, line_bytes, has_record}
 use Rattle.tp_area.proofs.Records.{each_at, records_more}
 use Rattle.tp_area.proofs.line.lines_bytes.Goals as goal
 

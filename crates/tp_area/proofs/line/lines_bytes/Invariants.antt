@@ -1,4 +1,5 @@
-use Rattle.std.proofs.Common.{◌≡◌, ◌*◌, flat_map, length, take}
+use Rattle.std.proofs.Common.{◌≡◌, ◌*◌, length, take}
+use Rattle.std.specs.Prelude.{flat_map}
 use Rattle.tp_model.specs.CutImage.{line_bytes}
 use Rattle.tp_area.proofs.line.lines_bytes.Given as goal
 

@@ -1,6 +1,5 @@
 use Rattle.std.proofs.Common.{◌≡◌, ◌+◌, ◌*◌, ◌++◌, length, take}
-use Rattle.std.specs.List.{flat_map}
-use Rattle.tp_model.specs.Bytes.{u16_bytes}
+use Rattle.tp_area.proofs.Lower.{u16_bytes, flat_map}
 use Rattle.tp_area.proofs.numbers.put_u16s.Given as goal
 
 abbrev pub invariant-loop-number : goal.invariant-loop-number

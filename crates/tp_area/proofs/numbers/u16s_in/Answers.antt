@@ -1,6 +1,5 @@
 use Rattle.std.proofs.Common.{◌+◌, ◌-◌, ◌++◌, sym, ap, ◌∙◌, arith, append-nil}
-use Rattle.tp_model.specs.Bytes.{u16_at}
-use Rattle.tp_model.specs.Head.{u16s_at}
+use Rattle.tp_area.proofs.Lower.{u16_at, u16s_at}
 use Rattle.tp_area.proofs.TwoBytes.{u16s_at-none, u16s_at_more}
 use Rattle.tp_area.proofs.Parts.{u16_at-take}
 use Rattle.tp_area.proofs.numbers.u16s_in.Goals as goal

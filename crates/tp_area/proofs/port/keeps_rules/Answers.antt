@@ -1,9 +1,6 @@
-use Rattle.std.proofs.Common.{◌≡◌, ℕ, ◌+◌, ◌-◌, Bool, true, false, length, take, drop, refl, sym, ap, ◌∙◌, arith}
+use Rattle.std.proofs.Common.{◌≡◌, ℕ, ◌+◌, ◌-◌, Bool, true, false, length, take, drop, refl, sym, ap, ◌∙◌, arith, length-drop}
 use Rattle.std.specs.Prelude.{◌&&◌, nat_le}
-use Rattle.std.specs.List.{list_all}
-use Rattle.std.proofs.lemmas.List.{length-drop, take_all}
-use Rattle.tp_model.specs.Bytes.{u64_at}
-use Rattle.tp_model.specs.declared.limits.TheConstants.{MAX_HELD}
+use Rattle.tp_area.proofs.Lower.{list_all, take_all, u64_at, MAX_HELD}
 use Rattle.tp_area.specs.Ports.{is_zero}
 use Rattle.tp_area.proofs.port.keeps_rules.Goals as goal
 use Rattle.tp_area.proofs.port.keeps_rules.Goals.{then-are_zeros, else-are_zeros}

@@ -1,5 +1,6 @@
-use Rattle.std.proofs.Common.{rules, ◌≤◌, ℕ, List, Vec, Global, length, take, take_all, ap, arith}
+use Rattle.std.proofs.Common.{rules, ◌≤◌, ℕ, List, Vec, Global, length, take, ap, arith}
 use Rattle.std.specs.Prelude.{flat_map}
+use Rattle.std.proofs.lemmas.List.{take_all}
 use Rattle.tp_area.specs.Puts.{Puts}
 use Rattle.tp_area.proofs.PutLaws.{puts_same, image_puts, image_fits, image_place, image_leaves}
 use Rattle.tp_area.proofs.puts.put_images.Goals as goal

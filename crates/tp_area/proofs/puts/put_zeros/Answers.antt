@@ -1,6 +1,5 @@
 use Rattle.std.proofs.Common.{rules, ◌≡◌, ◌+◌, ◌-◌, ◌≤◌, [], length, ap, arith}
-use Rattle.tp_model.specs.Bytes.{zeros}
-use Rattle.std.proofs.lemmas.List.{take-replicate}
+use Rattle.tp_area.proofs.Lower.{zeros, take-replicate}
 use Rattle.tp_area.proofs.PutLaws.{puts_none, puts_same, zeros_more, zeros_leave, none_leaves}
 use Rattle.tp_area.proofs.puts.put_zeros.Goals as goal
 

@@ -1,6 +1,5 @@
 use Rattle.std.proofs.Common.{◌≡◌, ◌-◌, ◌≤◌}
-use Rattle.tp_model.specs.Bytes.{zeros}
-use Rattle.tp_model.specs.DiskHistory.{LeavesOnly}
+use Rattle.tp_area.proofs.Lower.{zeros, LeavesOnly}
 use Rattle.tp_area.specs.Puts.{ButFor, Puts}
 use Rattle.tp_area.proofs.puts.put_zeros.Given as goal
 

@@ -1,7 +1,6 @@
 use Rattle.std.proofs.Common.{◌≡◌, ◌*◌, ◌≤◌, take}
 use Rattle.std.specs.Prelude.{sum_by}
-use Rattle.tp_model.specs.declared.limits.TheConstants.{MAX_PAGES}
-use Rattle.tp_model.specs.Journal.{image_length}
+use Rattle.tp_area.proofs.Lower.{MAX_PAGES, image_length}
 use Rattle.tp_area.proofs.room.images_bytes.Given as goal
 
 abbrev pub invariant-loop-count : goal.invariant-loop-count

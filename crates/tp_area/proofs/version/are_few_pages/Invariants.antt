@@ -1,8 +1,7 @@
 -- The nodes so far may have their pages.
 use Rattle.std.proofs.Common.{◌≡◌, true, take}
 use Rattle.std.specs.Prelude.{nat_le}
-use Rattle.std.specs.List.{list_all}
-use Rattle.tp_model.specs.Head.{head_pages}
+use Rattle.tp_area.proofs.Lower.{list_all, head_pages}
 use Rattle.tp_area.proofs.version.are_few_pages.Given as goal
 
 abbrev pub invariant-loop-count : goal.invariant-loop-count

@@ -1,7 +1,5 @@
 use Rattle.std.proofs.Common.{◌++◌, ◌∷◌, [], ap, ◌∙◌, sym, arith, append_assoc, map}
-use Rattle.std.proofs.lemmas.List.FromFn.{map-range_with_len_more}
-use Rattle.std.specs.List.{range_with_len}
-use Rattle.tp_model.specs.Head.{port_wire}
+use Rattle.tp_area.proofs.Lower.{map-range_with_len_more, range_with_len, port_wire}
 use Rattle.tp_area.proofs.wires.add_ports.Goals as goal
 
 pub loop-port-preserved : goal.loop-port-preserved

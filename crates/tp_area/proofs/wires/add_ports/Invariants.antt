@@ -1,6 +1,5 @@
 use Rattle.std.proofs.Common.{◌≡◌, ◌+◌, ◌++◌, length, map}
-use Rattle.std.specs.List.{range_with_len}
-use Rattle.tp_model.specs.Head.{port_wire}
+use Rattle.tp_area.proofs.Lower.{range_with_len, port_wire}
 use Rattle.tp_area.proofs.wires.add_ports.Given as goal
 
 abbrev pub invariant-loop-port : goal.invariant-loop-port

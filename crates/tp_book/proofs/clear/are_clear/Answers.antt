@@ -1,8 +1,6 @@
 use Rattle.std.proofs.Common.{◌≡◌, ◌∙◌, sym, ap, false, drop, ◌+◌, ◌<◌, arith, Some, slice_get, length, get_or, refl, []}
 use Rattle.std.specs.Prelude.{◌&&◌}
-use Rattle.std.specs.List.{list_all}
-use Rattle.std.proofs.lemmas.Option.{slice_get_read}
-use Rattle.tp_model.specs.Network.{on_line}
+use Rattle.tp_book.proofs.Lower.{list_all, slice_get_read, on_line}
 use Rattle.tp_book.specs.Clear.{is_clear}
 use Rattle.tp_book.proofs.Clearing.{line_clear}
 use Rattle.tp_book.proofs.clear.are_clear.Goals as goal

@@ -1,7 +1,6 @@
-use Rattle.std.proofs.Common.{◌∙◌, sym, ap, cond, false}
+use Rattle.std.proofs.Common.{◌∙◌, sym, ap, cond, false, drop, ◌+◌}
 use Rattle.tp_model.specs.Network.{on_line}
 use Rattle.tp_book.specs.Clear.{is_clear}
-use Rattle.std.proofs.Common.{drop, ◌+◌}
 use Rattle.tp_book.proofs.Clearing.{token_clear}
 use Rattle.tp_book.proofs.clear.is_clear.Goals as goal
 

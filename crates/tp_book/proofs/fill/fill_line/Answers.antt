@@ -1,8 +1,5 @@
 use Rattle.std.proofs.Common.{◌+◌, ◌++◌, ◌∷◌, sym, ap, ◌∙◌, arith, length, take, set, get_or, length-set, []}
-use Rattle.std.proofs.lemmas.List.{take_more, length-take-le, set-set}
-use Rattle.tp_model.specs.declared.link.Token.TheVariants.{Data}
-use Rattle.tp_model.specs.Network.{on_line}
-use Rattle.tp_law_network.proofs.Lines.{on_set_same}
+use Rattle.tp_book.proofs.Lower.{take_more, length-take-le, set-set, Data, on_line, on_set_same}
 use Rattle.tp_book.proofs.fill.fill_line.Goals as goal
 
 pub push-requires-clause-there : goal.push-requires-clause-there

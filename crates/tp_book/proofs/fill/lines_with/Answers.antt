@@ -1,6 +1,5 @@
 use Rattle.std.proofs.Common.{sym, ◌∙◌, arith, map}
-use Rattle.std.proofs.lemmas.List.{length-map}
-use Rattle.tp_law_network.proofs.Lines.{same_lines}
+use Rattle.tp_book.proofs.Lower.{length-map, same_lines}
 use Rattle.tp_book.proofs.fill.lines_with.Goals as goal
 
 pub returns : goal.returns

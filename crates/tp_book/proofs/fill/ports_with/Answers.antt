@@ -1,7 +1,6 @@
 use Rattle.std.proofs.Common.{◌≤◌, map, sym, ap, subst, ◌∙◌}
 use Rattle.std.specs.Prelude.{vec_len}
-use Rattle.std.proofs.lemmas.List.{take_all}
-use Rattle.tp_model.specs.declared.limits.TheConstants.{MAX_HELD}
+use Rattle.tp_book.proofs.Lower.{take_all, MAX_HELD}
 use Rattle.tp_book.specs.declared.port_parts.PortParts.{PortParts}
 use Rattle.tp_book.specs.PortParts.{port_made}
 use Rattle.tp_book.specs.Ports.{opened_port}

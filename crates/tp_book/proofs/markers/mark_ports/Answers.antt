@@ -1,8 +1,5 @@
 use Rattle.std.proofs.Common.{◌≡◌, ◌+◌, ◌*◌, ◌-◌, length, sym, ap, subst, ◌∙◌, arith}
-use Rattle.tp_model.specs.declared.link.Token.TheVariants.{Marker}
-use Rattle.tp_model.specs.Network.{has_wire, pushed, sent}
-use Rattle.tp_model.specs.Snapshot.{host_markers}
-use Rattle.tp_law_network.proofs.Lines.{length_pushed}
+use Rattle.tp_book.proofs.Lower.{Marker, has_wire, pushed, sent, host_markers, length_pushed}
 use Rattle.tp_book.specs.Room.{HasRoom}
 use Rattle.tp_book.proofs.Sent.{ports_left}
 use Rattle.tp_book.proofs.markers.mark_ports.Goals as goal

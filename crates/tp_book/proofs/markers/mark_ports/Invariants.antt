@@ -1,7 +1,6 @@
 -- What is left to be sent leads to the final lines, and has room.
 use Rattle.std.proofs.Common.{◌≡◌, ◌-◌, length}
-use Rattle.tp_model.specs.Network.{has_wire, sent}
-use Rattle.tp_model.specs.Snapshot.{host_markers}
+use Rattle.tp_book.proofs.Lower.{has_wire, sent, host_markers}
 use Rattle.tp_book.specs.Room.{HasRoom}
 use Rattle.tp_book.proofs.markers.mark_ports.Given as goal
 

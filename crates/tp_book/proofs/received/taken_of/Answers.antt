@@ -1,7 +1,5 @@
 use Rattle.std.proofs.Common.{◌+◌, ◌^◌, ◌<◌, ◌++◌, length, map, drop, get_or, sym, ap, ◌∙◌, arith, append_assoc}
-use Rattle.tp_model.specs.declared.link.Token.{Token}
-use Rattle.tp_model.specs.declared.link.Received.TheVariants.{Nothing}
-use Rattle.tp_model.specs.Turn.{by_line, by_link, received}
+use Rattle.tp_book.proofs.Lower.{Token, Nothing, by_line, by_link, received}
 use Rattle.tp_book.proofs.InFront.{lines_from, taken_few, low_on}
 use Rattle.tp_book.proofs.received.taken_of.Goals as goal
 

@@ -1,9 +1,5 @@
 use Rattle.std.proofs.Common.{◌+◌, ◌<◌, ◌++◌, length, map, drop, get_or, sym, ap, ◌∙◌, arith, append_assoc}
-use Rattle.tp_model.specs.declared.link.Token.{Token}
-use Rattle.tp_model.specs.declared.link.Received.TheVariants.{Nothing}
-use Rattle.tp_model.specs.Turn.{by_link, received}
-use Rattle.tp_law_machine.specs.NodeOfBytes.{CarriesByte}
-use Rattle.tp_law_network.proofs.Partial.{all_append}
+use Rattle.tp_book.proofs.Lower.{Token, Nothing, by_link, received, CarriesByte, all_append}
 use Rattle.tp_book.proofs.InFront.{links_from, received_few}
 use Rattle.tp_book.proofs.received.tokens_of.Goals as goal
 

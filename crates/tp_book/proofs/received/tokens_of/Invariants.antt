@@ -1,7 +1,6 @@
 -- The tokens so far, and then those of the links that are left, are all.
 use Rattle.std.proofs.Common.{◌≡◌, ◌≤◌, ◌*◌, ◌++◌, length, drop}
-use Rattle.tp_model.specs.Turn.{by_link}
-use Rattle.tp_law_machine.specs.NodeOfBytes.{CarryBytes}
+use Rattle.tp_book.proofs.Lower.{by_link, CarryBytes}
 use Rattle.tp_book.proofs.received.tokens_of.Given as goal
 
 abbrev pub invariant-loop-link : goal.invariant-loop-link

@@ -1,6 +1,5 @@
 use Rattle.std.proofs.Common.{◌<◌, true, false, length, get_or, sym, ◌∙◌, arith}
-use Rattle.std.proofs.lemmas.Option.{slice_get-get_or, get_or_from_slice_get}
-use Rattle.tp_model.specs.Network.{has_wire}
+use Rattle.tp_book.proofs.Lower.{slice_get-get_or, get_or_from_slice_get, has_wire}
 use Rattle.tp_book.proofs.Counts.{all_closed_not, open_wired}
 use Rattle.tp_book.proofs.running.all_closed.Goals as goal
 

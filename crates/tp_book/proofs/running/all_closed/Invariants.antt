@@ -1,7 +1,6 @@
 -- The lines so far are closed if they have a wire.
 use Rattle.std.proofs.Common.{◌≡◌, true, get_or}
-use Rattle.tp_model.specs.Network.{has_wire}
-use Rattle.tp_model.specs.WholeCut.{all_closed}
+use Rattle.tp_book.proofs.Lower.{has_wire, all_closed}
 use Rattle.tp_book.proofs.running.all_closed.Given as goal
 
 abbrev pub invariant-loop-line : goal.invariant-loop-line

@@ -1,11 +1,7 @@
 use Rattle.std.proofs.Common.{ℕ, ◌+◌, ◌<◌, refl, length, sym, ap, ◌∙◌}
-use Rattle.std.proofs.lemmas.List.{drop_all}
-use Rattle.tp_model.specs.declared.link.Token.TheVariants.{Data}
-use Rattle.tp_model.specs.Network.{has_wire, sent}
-use Rattle.tp_law_network.proofs.Lines.{length_pushed}
+use Rattle.tp_book.proofs.Lower.{drop_all, Data, has_wire, sent, length_pushed, Token}
 use Rattle.tp_book.specs.Room.{from_line}
 use Rattle.tp_book.proofs.Sending.{known_at, next_sent}
-use Rattle.tp_model.specs.declared.link.Token.{Token}
 use Rattle.tp_book.proofs.send.send_all.Goals as goal
 
 pub loop-m-preserved : goal.loop-m-preserved

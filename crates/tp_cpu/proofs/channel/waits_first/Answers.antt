@@ -1,11 +1,6 @@
 use Rattle.std.proofs.Common.{◌≡◌, ◌%◌, ℕ, true, false, List, ◌++◌, Some, length, refl, ap, sym, ◌∙◌, rules, arith}
 use Rattle.std.specs.Prelude.{Err}
-use Rattle.tp_model.specs.Memory.{is_inside, stored}
-use Rattle.tp_model.specs.Outcome.{Next, leaves}
-use Rattle.tp_model.specs.Processor.{stopped}
-use Rattle.tp_model.specs.Channel.{wait_writes}
-use Rattle.tp_model.specs.SharedPages.{word_ranges, kept_behind}
-use Rattle.tp_model.specs.declared.processor.Cpu.{Cpu}
+use Rattle.tp_cpu.proofs.Lower.{is_inside, stored, Next, leaves, stopped, wait_writes, word_ranges, kept_behind, Cpu}
 use Rattle.tp_cpu.specs.After.{stored_after}
 use Rattle.tp_cpu.specs.AfterWrites.{first_ranges}
 use Rattle.tp_cpu.proofs.Behind.{refused_after, halts_after, done_after, kept_done, waits, Writes-same}

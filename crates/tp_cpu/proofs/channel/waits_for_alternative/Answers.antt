@@ -1,11 +1,6 @@
 use Rattle.std.proofs.Common.{◌≡◌, ◌%◌, ◌++◌, true, false, length, refl, ap, sym, ◌∙◌, rules, arith}
 use Rattle.std.specs.Prelude.{Err}
-use Rattle.tp_model.specs.Memory.{is_inside, stored}
-use Rattle.tp_model.specs.Outcome.{Next, leaves}
-use Rattle.tp_model.specs.Processor.{stopped}
-use Rattle.tp_model.specs.Alternative.{signal_writes, signalled}
-use Rattle.tp_model.specs.Channel.{wait_writes}
-use Rattle.tp_model.specs.declared.processor.Cpu.{Cpu}
+use Rattle.tp_cpu.proofs.Lower.{is_inside, stored, Next, leaves, stopped, signal_writes, signalled, wait_writes, Cpu}
 use Rattle.tp_cpu.proofs.Behind.{refused_after, halts_after, done_after, kept_done}
 use Rattle.tp_cpu.proofs.channel.waits_for_alternative.Goals as goal
 

@@ -1,8 +1,5 @@
 use Rattle.std.proofs.Common.{◌≡◌, ℕ, List, [], ◌∷◌, ◌++◌, ap, sym, ◌∙◌}
-use Rattle.std.specs.Option.{option_to_list}
-use Rattle.tp_model.specs.Processor.{workspace, state_at, queue_writes}
-use Rattle.tp_model.specs.Alternative.{ready}
-use Rattle.tp_model.specs.Channel.{wait_writes}
+use Rattle.tp_cpu.proofs.Lower.{option_to_list, workspace, state_at, queue_writes, ready, wait_writes}
 use Rattle.tp_cpu.proofs.Behind.{signal-enabling, signal-waiting, signal-other, waits, signals_and_waits, Writes-same}
 use Rattle.tp_cpu.proofs.channel.write_signal.Goals as goal
 

@@ -1,7 +1,5 @@
 use Rattle.std.proofs.Common.{◌≡◌, ◌+◌, drop, ◌∙◌, sym, ap, arith}
-use Rattle.std.proofs.lemmas.Option.{slice_get_within}
-use Rattle.tp_model.specs.Word.{wrap}
-use Rattle.tp_model.specs.Memory.{offset}
+use Rattle.tp_cpu.proofs.Lower.{slice_get_within, wrap, offset}
 use Rattle.tp_cpu.specs.Decoding.{reads_on}
 use Rattle.tp_cpu.proofs.Ahead.{through_byte, no_bytes_from, next_offset}
 use Rattle.tp_cpu.proofs.fetch.fetch.Goals as goal

@@ -1,6 +1,5 @@
 use Rattle.std.proofs.Common.{◌≡◌, drop, ◌-◌}
-use Rattle.tp_model.specs.Memory.{offset}
-use Rattle.tp_model.specs.Coding.{decoded}
+use Rattle.tp_cpu.proofs.Lower.{offset, decoded}
 use Rattle.tp_cpu.specs.Decoding.{reads_on}
 use Rattle.tp_cpu.proofs.fetch.fetch.Given as goal
 

@@ -1,8 +1,5 @@
 use Rattle.std.proofs.Common.{◌≡◌, ◌^◌, ◌<◌, true, Some, rules}
-use Rattle.tp_model.specs.Channel.{channel_at}
-use Rattle.tp_model.specs.Coding.{op_of}
-use Rattle.tp_model.specs.declared.instruction.Op.TheVariants.{In, Out}
-use Rattle.tp_model.specs.declared.request.ChannelWord.TheVariants.{Input, Output}
+use Rattle.tp_cpu.proofs.Lower.{channel_at, op_of, In, Out, Input, Output}
 use Rattle.tp_cpu.specs.Advance.{runs}
 use Rattle.tp_cpu.proofs.Asks.{asks_in, asks_out}
 use Rattle.tp_cpu.proofs.stepping.asked.Goals as goal

@@ -1,6 +1,4 @@
-use Rattle.tp_model.specs.SharedPages.{LacksFrames}
-use Rattle.tp_model.specs.Step.{step_of}
-use Rattle.tp_model.specs.StepWrites.{step_ranges}
+use Rattle.tp_cpu.proofs.Lower.{LacksFrames, step_of, step_ranges}
 use Rattle.tp_cpu.proofs.Asks.{asked_makes, asked_keeps, asked_wants_none}
 use Rattle.tp_cpu.proofs.stepping.step.Goals as goal
 

@@ -1,7 +1,5 @@
 use Rattle.std.proofs.Common.{◌≡◌, ℕ, ◌^◌, ◌<◌, true, subst, rules}
-use Rattle.tp_model.specs.Coding.{fun_of}
-use Rattle.tp_model.specs.Processor.{past}
-use Rattle.tp_model.specs.declared.processor.Cpu.{Cpu}
+use Rattle.tp_cpu.proofs.Lower.{fun_of, past, Cpu}
 use Rattle.tp_cpu.specs.Advance.{WasDone, runs, effect_at, ranges_at}
 use Rattle.tp_cpu.proofs.Waits.{leads_spelt_at}
 use Rattle.tp_cpu.proofs.waiting.wait.Goals as goal

@@ -1,6 +1,5 @@
 use Rattle.std.proofs.Common.{sym, arith}
-use Rattle.std.proofs.lemmas.List.{append-nil, take-replicate}
-use Rattle.std.proofs.lemmas.Result.{IfOk-from_err}
+use Rattle.tp_disk.proofs.Lower.{append-nil, take-replicate, IfOk-from_err}
 use Rattle.tp_disk.proofs.Pieces.{filled_by, keeps_more, keeps_none, on_err, piece_more}
 use Rattle.tp_disk.proofs.filling.fill.Goals as goal
 

@@ -1,6 +1,5 @@
 use Rattle.std.proofs.Common.{◌+◌, ◌≤◌, length, arith}
-use Rattle.std.proofs.lemmas.Result.{on_err_weaker}
-use Rattle.tp_model.specs.Disk.{Write}
+use Rattle.tp_disk.proofs.Lower.{on_err_weaker, Write}
 use Rattle.tp_disk.proofs.Calls.{call_leaves, write_broke, sync_broke, through_leaves}
 use Rattle.tp_disk.proofs.Pieces.{on_err}
 use Rattle.tp_disk.proofs.through.write_through.Goals as goal

@@ -1,7 +1,5 @@
 use Rattle.std.proofs.Common.{[], refl}
-use Rattle.tp_model.specs.Node.{t414}
-use Rattle.tp_law_device.proofs.Formatted.{formatted_starts}
-use Rattle.tp_law_device.specs.FormattedWorld.{formatted_world}
+use Rattle.tp_flush.proofs.Lower.{t414, formatted_starts, formatted_world}
 use Rattle.tp_flush.proofs.laws.first_process_begins.Goals as goal
 
 pub returns : goal.returns

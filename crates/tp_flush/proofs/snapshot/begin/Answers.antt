@@ -1,8 +1,6 @@
-use Rattle.std.proofs.Common.{◌≡◌, [], ◌∷◌, ◌++◌, length, sym, subst, ap, ◌∙◌, Result, Ok, Err}
-use Rattle.std.specs.Prelude.{IfOk, OnErr}
-use Rattle.tp_book.specs.declared.refusal.Refusal.{Refusal}
-use Rattle.tp_book.specs.Marked.{after_begin}
-use Rattle.tp_shared.specs.Seals.{Stage}
+use Rattle.std.proofs.Common.{◌≡◌, [], ◌∷◌, ◌++◌, length, sym, subst, ap, ◌∙◌, Result, Ok, Err, OnErr}
+use Rattle.std.specs.Prelude.{IfOk}
+use Rattle.tp_flush.proofs.Lower.{Refusal, after_begin, Stage}
 use Rattle.tp_flush.specs.Refused.{BegunIn}
 use Rattle.tp_flush.proofs.snapshot.begin.Goals as goal
 

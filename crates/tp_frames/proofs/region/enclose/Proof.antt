@@ -1,9 +1,8 @@
 -- The places, the right to free them and the handle go into the struct.
 use Rattle.std.proofs.Common.{◌≡◌, ℕ, ◌^◌, ◌<◌, T, List, [], ◌∷◌, ◌++◌, refl, ap, ◌∙◌, lit<, w64}
+use Rattle.tp_frames.proofs.Lower.{feq, ftrue, fsep, SProp, emp, lease_val, slots_items, slots_ptr, slots_len, slots_small, lease_ptr, lease_len, lease_heap, IsFull}
 use mir.Syntax.{Ty, ty_ptr, ty_int, ty_struct, tcons, tnil}
 use mir.Val.{Val, vint, vstruct, vcons, vnil, of_list, has_ty, WT}
-use base.Fml.{feq, ftrue, fsep}
-use base.Logic.{SProp, emp}
 use contract.Monad.{fact, fact_i}
 use contract.Running.{tables}
 use types.Kit.{‵, raw, ◌⊛◌, ◌$◌, ◌∵◌, !, qed, by, move, keep, split, fjoin, fpack, feq_i, use0}
@@ -19,12 +18,9 @@ use denote.Signature.{plain, types_at}
 use denote.Steps.{nothing, heard}
 use denote.Triple.Entry.{alive}
 use denote.Triple.Walked.{Stays, stay_dropped, walk_of, Goes-dropped}
-use Rattle.core.proofs.slots.Leases.{lease_val}
-use Rattle.core.specs.Mem.Slots.{slots_items, slots_ptr, slots_len, slots_small, lease_ptr, lease_len, lease_heap, IsFull}
 use Rattle.core.specs.contracts.slots.Slots as Slots
 use Rattle.core.specs.contracts.slots.Lease as Lease
-use Rattle.std.proofs.raw_atomic.Walks.{proved, leaves}
-use Rattle.std_heap.proofs.Handle.{heap_val, heap_Tells}
+use Rattle.tp_frames.proofs.Lower.{proved, leaves, heap_val, heap_Tells}
 use Rattle.std_heap.specs.contracts.Global as Heap
 use Rattle.std_heap.specs.contracts.GlobalAllocator.TheImpl.{ghosts}
 use Rattle.tp_frames.specs.contracts.region.Region as Region

@@ -1,6 +1,5 @@
 use Rattle.std.proofs.Common.{◌≡◌, ℕ, ◌+◌, ◌<◌, [], get_or}
-use Rattle.core.specs.Mem.Slots.{slots_items, slots_ptr, slots_len, slots_filled}
-use Rattle.core.specs.Mem.Slots.Ownership.{Filled}
+use Rattle.tp_frames.proofs.Lower.{slots_items, slots_ptr, slots_len, slots_filled, Filled}
 use Rattle.tp_frames.specs.FreeList.{next_in}
 use Rattle.tp_frames.proofs.region.fill.Given as goal
 

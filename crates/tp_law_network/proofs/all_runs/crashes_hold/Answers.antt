@@ -1,5 +1,4 @@
-use Rattle.tp_law_machine.proofs.LinkLaws.{has_four_links, never_marks}
-use Rattle.tp_model.specs.Node.{t414}
+use Rattle.tp_law_network.proofs.Lower.{has_four_links, never_marks, t414}
 use Rattle.tp_law_network.proofs.Runs.{run_recovers, goes_on}
 use Rattle.tp_law_network.proofs.Stay.{stays}
 use Rattle.tp_law_network.proofs.all_runs.crashes_hold.Goals as goal

@@ -1,6 +1,4 @@
-use Rattle.tp_model.specs.Node.{t414}
-use Rattle.tp_law_machine.proofs.LinkLaws.{has_four_links}
-use Rattle.tp_model.specs.declared.entry.Entry.TheVariants.{Take}
+use Rattle.tp_law_network.proofs.Lower.{t414, has_four_links, Take}
 use Rattle.tp_law_network.proofs.CanFollow.{other_token_stops}
 use Rattle.tp_law_network.proofs.Rows.{stops_at_row}
 use Rattle.tp_law_network.proofs.by_parts.another_token_is_refused.Goals as goal

@@ -1,5 +1,4 @@
-use Rattle.tp_model.specs.Node.{t414}
-use Rattle.tp_law_machine.proofs.LinkLaws.{has_four_links}
+use Rattle.tp_law_network.proofs.Lower.{t414, has_four_links}
 use Rattle.tp_law_network.proofs.Reach.{pieces_end}
 use Rattle.tp_law_network.proofs.Together.{pieces_together, together_is}
 use Rattle.tp_law_network.proofs.by_parts.pieces_make_the_network.Goals as goal

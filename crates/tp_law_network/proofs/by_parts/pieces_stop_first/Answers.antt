@@ -1,5 +1,4 @@
-use Rattle.tp_model.specs.Node.{t414, t414_ends}
-use Rattle.tp_law_machine.proofs.LinkLaws.{has_four_links, never_marks, keeps_flight}
+use Rattle.tp_law_network.proofs.Lower.{t414, t414_ends, has_four_links, never_marks, keeps_flight}
 use Rattle.tp_law_network.proofs.Stops.{least_stop}
 use Rattle.tp_law_network.proofs.by_parts.pieces_stop_first.Goals as goal
 

@@ -1,5 +1,4 @@
-use Rattle.tp_model.specs.Node.{t414}
-use Rattle.tp_law_machine.proofs.LinkLaws.{has_four_links}
+use Rattle.tp_law_network.proofs.Lower.{t414, has_four_links}
 use Rattle.tp_law_network.proofs.CanFollow.{becomes_by_itself, stops_at_fault, other_token_stops}
 use Rattle.tp_law_network.proofs.by_parts.tokens_come_from_senders.Goals as goal
 

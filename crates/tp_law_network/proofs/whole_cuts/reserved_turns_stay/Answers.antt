@@ -1,5 +1,4 @@
-use Rattle.tp_law_machine.proofs.LinkLaws.{has_four_links, never_marks}
-use Rattle.tp_model.specs.Node.{t414}
+use Rattle.tp_law_network.proofs.Lower.{has_four_links, never_marks, t414}
 use Rattle.tp_law_network.proofs.CutsFronts.{received_after, stays_possible_after}
 use Rattle.tp_law_network.proofs.whole_cuts.reserved_turns_stay.Goals as goal
 

@@ -1,5 +1,4 @@
-use Rattle.tp_law_machine.proofs.LinkLaws.{has_four_links}
-use Rattle.tp_model.specs.Node.{t414}
+use Rattle.tp_law_network.proofs.Lower.{has_four_links, t414}
 use Rattle.tp_law_network.proofs.Reorder.{reorder_end}
 use Rattle.tp_law_network.proofs.Swap as Swap
 use Rattle.tp_law_network.proofs.whole_cuts.swaps_agree.Goals as goal

@@ -1,6 +1,5 @@
 use Rattle.std.proofs.Common.{◌*◌, length, take, drop, sym, ap, ◌∙◌, arith}
-use Rattle.std.proofs.lemmas.List.{length-drop}
-use Rattle.tp_model.specs.declared.limits.TheConstants.{PAGE_BYTES}
+use Rattle.tp_mem.proofs.Lower.{length-drop, PAGE_BYTES}
 use Rattle.tp_mem.proofs.Copies.{page_of-take, length-page_of, take_past}
 use Rattle.tp_mem.proofs.copy_table.page_at.Goals as goal
 

@@ -1,7 +1,5 @@
 use Rattle.std.proofs.Common.{◌/◌, refl}
-use Rattle.tp_model.specs.SharedPages.{word_ranges, touches}
-use Rattle.std.specs.List.{list_any}
-use Rattle.tp_model.specs.declared.limits.TheConstants.{PAGE_BYTES}
+use Rattle.tp_mem.proofs.Lower.{word_ranges, touches, list_any, PAGE_BYTES}
 use Rattle.tp_mem.proofs.Touches.{or_false, words_alone}
 use Rattle.tp_mem.proofs.touch.one_page.Goals as goal
 

@@ -1,6 +1,5 @@
 use Rattle.std.proofs.Common.{◌≡◌, ◌+◌, ◌≤◌, length}
-use Rattle.std.specs.Str.Lines.{lines}
-use Rattle.tp_model.specs.TopologyText.{read_lines}
+use Rattle.tp_net.proofs.Lower.{lines, read_lines}
 use Rattle.tp_net.proofs.topology.declare.Given as goal
 
 abbrev pub invariant-loop-line : goal.invariant-loop-line

@@ -1,6 +1,5 @@
 use Rattle.std.proofs.Common.{◌≡◌, Result, Err, MatchResult, sym, subst, ◌∙◌, rules}
-use Rattle.tp_model.specs.declared.topology.NetFault.{NetFault}
-use Rattle.tp_model.specs.TopologyText.{read_text}
+use Rattle.tp_net.proofs.Lower.{NetFault, read_text}
 use Rattle.tp_net.specs.Steps.{IsFaultOf}
 use Rattle.tp_net.proofs.Reading.{node_names-said}
 use Rattle.tp_net.proofs.topology.named_in.Goals as goal

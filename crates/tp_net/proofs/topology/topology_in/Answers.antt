@@ -1,6 +1,5 @@
 use Rattle.std.proofs.Common.{◌≡◌, ◌∙◌, Ok, sym, ap, subst, inl, inr, rules}
-use Rattle.std.specs.Str.Lines.{lines}
-use Rattle.tp_model.specs.TopologyText.{nothing_said, read_lines}
+use Rattle.tp_net.proofs.Lower.{lines, nothing_said, read_lines}
 use Rattle.tp_net.specs.Steps.{IsRead}
 use Rattle.tp_net.proofs.Reading.{IsRead-fault, read_text-fault, read_text-said}
 use Rattle.tp_net.proofs.Shapes.{shape_of_lines}

@@ -1,6 +1,5 @@
 use Rattle.std.proofs.Common.{◌≡◌, ◌≤◌, take}
-use Rattle.std.specs.Str.Parse.{digits_value}
-use Rattle.tp_model.specs.declared.limits.TheConstants.{MAX_PAGES}
+use Rattle.tp_net.proofs.Lower.{digits_value, MAX_PAGES}
 use Rattle.tp_net.proofs.words.pages_in.Given as goal
 
 abbrev pub invariant-loop-byte : goal.invariant-loop-byte

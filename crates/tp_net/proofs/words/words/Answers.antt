@@ -1,7 +1,6 @@
 use Rattle.std.proofs.Common.{rules, length}
 use Rattle.std.specs.Prelude.{not, ◌==◌}
-use Rattle.std.proofs.lemmas.Iterator.Consumers.{map_from_collect, YieldsList-from_filter}
-use Rattle.std.proofs.lemmas.Iterator.Splits.{YieldsList-from_slice_split}
+use Rattle.tp_net.proofs.Lower.{map_from_collect, YieldsList-from_filter, YieldsList-from_slice_split}
 use Rattle.tp_net.proofs.words.words.Goals as goal
 
 pub returns : goal.returns

@@ -1,8 +1,5 @@
-use Rattle.std.proofs.Common.{◌≡◌, ◌%◌, ℕ, true, false, List, [], ◌∷◌, length, is_some, refl, sym, subst, ap, ◌∙◌, rules, arith}
-use Rattle.std.specs.Option.{option_to_list}
-use Rattle.std.specs.Prelude.{Err}
-use Rattle.tp_model.specs.Memory.{word_at}
-use Rattle.tp_model.specs.SharedPages.{LacksFrames, kept_behind}
+use Rattle.std.proofs.Common.{◌≡◌, ◌%◌, ℕ, true, false, List, [], ◌∷◌, length, is_some, refl, sym, subst, ap, ◌∙◌, rules, arith, Err}
+use Rattle.tp_node.proofs.Lower.{word_at, LacksFrames, kept_behind, option_to_list}
 use Rattle.tp_node.proofs.Woken.{is_some-stored_alone, is_some-stored_behind, wake-stored, then_put-stored, wake-lost, then_put-lost}
 use Rattle.tp_node.proofs.arrival.wake.Goals as goal
 

@@ -1,6 +1,5 @@
 use Rattle.std.proofs.Common.{arith}
-use Rattle.std.proofs.lemmas.Grind.{common_steps}
-use Rattle.std.proofs.lemmas.List.{drop-drop}
+use Rattle.tp_node.proofs.Lower.{common_steps, drop-drop}
 use Rattle.tp_node.proofs.ends.in_end_at.Goals as goal
 
 pub returns-else-bytes-at-eq1 : goal.returns-else-bytes-at-eq1

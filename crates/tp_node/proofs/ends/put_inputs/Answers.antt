@@ -1,6 +1,5 @@
 use Rattle.std.proofs.Common.{refl, ◌∙◌}
-use Rattle.tp_model.specs.EndBytes.{in_end_bytes}
-use Rattle.tp_law_machine.proofs.EndImages.{length-in_end}
+use Rattle.tp_node.proofs.Lower.{in_end_bytes, length-in_end}
 use Rattle.tp_node.proofs.Pieces.{pieces_more}
 use Rattle.tp_node.proofs.ends.put_inputs.Goals as goal
 

@@ -1,6 +1,5 @@
 use Rattle.std.proofs.Common.{◌≡◌, ◌*◌, ◌++◌, take, drop}
-use Rattle.std.specs.List.{flat_map}
-use Rattle.tp_model.specs.EndBytes.{in_end_bytes}
+use Rattle.tp_node.proofs.Lower.{flat_map, in_end_bytes}
 use Rattle.tp_node.proofs.ends.put_inputs.Given as goal
 
 -- the ends so far are before what was there

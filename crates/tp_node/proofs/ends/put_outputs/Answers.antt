@@ -1,6 +1,5 @@
 use Rattle.std.proofs.Common.{refl, ◌∙◌}
-use Rattle.tp_model.specs.EndBytes.{out_end_bytes}
-use Rattle.tp_law_machine.proofs.EndImages.{length-out_end}
+use Rattle.tp_node.proofs.Lower.{out_end_bytes, length-out_end}
 use Rattle.tp_node.proofs.Pieces.{pieces_more}
 use Rattle.tp_node.proofs.ends.put_outputs.Goals as goal
 

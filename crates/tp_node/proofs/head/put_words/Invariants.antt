@@ -1,6 +1,5 @@
 use Rattle.std.proofs.Common.{◌≡◌, ◌*◌, ◌++◌, take, drop}
-use Rattle.std.specs.List.{flat_map}
-use Rattle.tp_model.specs.Bytes.{u32_bytes}
+use Rattle.tp_node.proofs.Lower.{flat_map, u32_bytes}
 use Rattle.tp_node.proofs.head.put_words.Given as goal
 
 -- the words so far are before what was there

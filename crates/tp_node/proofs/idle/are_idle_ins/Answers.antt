@@ -1,7 +1,6 @@
 use Rattle.std.proofs.Common.{◌≡◌, ◌+◌, ◌-◌, ◌*◌, true, false, drop, refl, sym, ap, ◌∙◌, arith, rules}
 use Rattle.std.specs.Prelude.{◌&&◌}
-use Rattle.std.specs.List.{list_all}
-use Rattle.tp_model.specs.EndBytes.{in_end_at, ends_at, is_idle_in}
+use Rattle.tp_node.proofs.Lower.{list_all, in_end_at, ends_at, is_idle_in}
 use Rattle.tp_node.proofs.IdleLinks.{link_step, links_done}
 use Rattle.tp_node.proofs.idle.are_idle_ins.Goals as goal
 

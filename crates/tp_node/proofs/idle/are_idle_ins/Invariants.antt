@@ -1,6 +1,5 @@
 use Rattle.std.proofs.Common.{◌≡◌, ◌+◌, ◌-◌, ◌*◌, drop}
-use Rattle.std.specs.List.{list_all}
-use Rattle.tp_model.specs.EndBytes.{in_end_at, ends_at, is_idle_in}
+use Rattle.tp_node.proofs.Lower.{list_all, in_end_at, ends_at, is_idle_in}
 use Rattle.tp_node.proofs.idle.are_idle_ins.Given as goal
 
 abbrev pub invariant-loop-link : goal.invariant-loop-link

@@ -1,6 +1,5 @@
 use Rattle.std.proofs.Common.{◌≡◌, ◌+◌, ◌-◌, ◌*◌, drop}
-use Rattle.std.specs.List.{list_all}
-use Rattle.tp_model.specs.EndBytes.{out_end_at, ends_at, is_idle_out}
+use Rattle.tp_node.proofs.Lower.{list_all, out_end_at, ends_at, is_idle_out}
 use Rattle.tp_node.proofs.idle.are_idle_outs.Given as goal
 
 abbrev pub invariant-loop-link : goal.invariant-loop-link

@@ -1,7 +1,5 @@
 use Rattle.std.proofs.Common.{◌≡◌, ◌/◌, ◌++◌, ℕ, List, Some, length, take, replicate, true, bytes_eq, sym, ap, ◌∙◌, arith}
-use Rattle.std.proofs.lemmas.List.{append-nil, length-replicate, take_at}
-use Rattle.tp_model.specs.declared.limits.TheConstants.{IMAGE_HEAD_BYTES}
-use Rattle.tp_model.specs.Image.{image_head, node_at, is_node}
+use Rattle.tp_node.proofs.Lower.{append-nil, length-replicate, take_at, IMAGE_HEAD_BYTES, image_head, node_at, is_node}
 use Rattle.tp_node.specs.StateWith.{state_with}
 use Rattle.tp_node.proofs.Images.{HasPages, node_at-front, node_of-unruly, node_of-other_head, node_of-image, has_pages}
 use Rattle.tp_node.proofs.image.read_head.Goals as goal

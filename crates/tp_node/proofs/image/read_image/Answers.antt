@@ -1,7 +1,5 @@
 use Rattle.std.proofs.Common.{rules, ◌≡◌, ◌∙◌, ◌-◌, ◌++◌, ℕ, List, None, length, take, drop, refl, sym, ap}
-use Rattle.std.proofs.lemmas.List.{take-append-drop, take_rest}
-use Rattle.tp_model.specs.declared.limits.TheConstants.{IMAGE_HEAD_BYTES}
-use Rattle.tp_model.specs.Image.{node_of}
+use Rattle.tp_node.proofs.Lower.{take-append-drop, take_rest, IMAGE_HEAD_BYTES, node_of}
 use Rattle.tp_node.proofs.Images.{node_of-short}
 use Rattle.tp_node.proofs.image.read_image.Goals as goal
 

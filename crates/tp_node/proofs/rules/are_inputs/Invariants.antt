@@ -1,6 +1,5 @@
 use Rattle.std.proofs.Common.{◌≡◌, ℕ, List, length, drop}
-use Rattle.std.specs.List.{list_all}
-use Rattle.tp_model.specs.EndBytes.{is_in_end}
+use Rattle.tp_node.proofs.Lower.{list_all, is_in_end}
 use Rattle.tp_node.proofs.rules.are_inputs.Given as goal
 
 -- the ends that are left say what all say

@@ -1,6 +1,5 @@
 use Rattle.std.proofs.Common.{◌≡◌, ℕ, List, length, drop}
-use Rattle.std.specs.List.{list_all}
-use Rattle.tp_model.specs.EndBytes.{is_out_end}
+use Rattle.tp_node.proofs.Lower.{list_all, is_out_end}
 use Rattle.tp_node.proofs.rules.are_outputs.Given as goal
 
 -- the ends that are left say what all say

@@ -1,7 +1,6 @@
-use Rattle.std.proofs.Common.{◌≡◌, ◌+◌, ℕ, List, Option, Some, None, option_to_list, refl, sym, subst, arith}
-use Rattle.tp_model.specs.NodeState.{NodeState}
-use Rattle.tp_model.specs.Node.{node_step}
-use Rattle.tp_model.specs.declared.link.Token.{Token}
+use Rattle.std.proofs.Common.{◌≡◌, ◌+◌, ℕ, List, Option, Some, None, refl, sym, subst, arith}
+use Rattle.std.specs.Prelude.{option_to_list}
+use Rattle.tp_node.proofs.Lower.{NodeState, node_step, Token}
 use Rattle.tp_node.specs.declared.step.StepOutcome.TheVariants.{Step}
 use Rattle.tp_node.specs.Makes.{Makes}
 use Rattle.tp_node.specs.StateWith.{state_with}

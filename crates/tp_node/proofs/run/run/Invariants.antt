@@ -1,7 +1,5 @@
 use Rattle.std.proofs.Common.{◌≤◌, ◌-◌, ℕ, List}
-use Rattle.tp_model.specs.NodeState.{NodeState}
-use Rattle.tp_model.specs.SharedPages.{Kept}
-use Rattle.tp_model.specs.declared.link.Token.{Token}
+use Rattle.tp_node.proofs.Lower.{NodeState, Kept, Token}
 use Rattle.tp_node.specs.StateWith.{state_with}
 use Rattle.tp_node.proofs.RunSoFar.{Runs}
 use Rattle.tp_node.proofs.run.run.Given as goal

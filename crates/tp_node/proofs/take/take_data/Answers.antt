@@ -1,8 +1,5 @@
 use Rattle.std.proofs.Common.{◌≡◌, ◌<◌, Err, length, get_or, ◌∙◌, rules, arith}
-use Rattle.std.proofs.lemmas.Option.{slice_get-get_or}
-use Rattle.tp_model.specs.SharedPages.{LacksFrames}
-use Rattle.tp_model.specs.NodeWrites.{took_ranges}
-use Rattle.tp_model.specs.declared.link.Token.TheVariants.{Data}
+use Rattle.tp_node.proofs.Lower.{slice_get-get_or, LacksFrames, took_ranges, Data}
 use Rattle.tp_node.specs.StateWith.{state_with}
 use Rattle.tp_node.proofs.Taken.{data_taken, not_taken, same_node, data_ranges}
 use Rattle.tp_node.proofs.take.take_data.Goals as goal

@@ -1,8 +1,5 @@
 use Rattle.std.proofs.Common.{◌≡◌, ◌∷◌, [], refl, ap, ◌∙◌, length, length-append, slice_index_or}
-use Rattle.std.proofs.lemmas.List.{get_or_at}
-use Rattle.std.proofs.lemmas.Result.{IfOk-weaker}
-use Rattle.tp_model.specs.NodeState.{NodeState}
-use Rattle.tp_model.specs.Network.{Network}
+use Rattle.tp_pieces.proofs.Lower.{get_or_at, IfOk-weaker, NodeState, Network}
 use Rattle.tp_pieces.specs.Apart.{network_apart}
 use Rattle.tp_pieces.specs.Dealing.{AgreeAll, no_part}
 use Rattle.tp_pieces.specs.Inside.{AreLive}

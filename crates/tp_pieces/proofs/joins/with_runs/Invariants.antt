@@ -1,7 +1,6 @@
 -- The first runs are left, and those after them are joined.
 use Rattle.std.proofs.Common.{◌≡◌, length, take, vec_len}
-use Rattle.tp_model.specs.NodeState.{NodeState}
-use Rattle.tp_model.specs.Network.{Network}
+use Rattle.tp_pieces.proofs.Lower.{NodeState, Network}
 use Rattle.tp_pieces.specs.Joining.{AreBefore, HoldsFrom}
 use Rattle.tp_pieces.proofs.Rejoined.{start_at}
 use Rattle.tp_pieces.proofs.joins.with_runs.Given as goal

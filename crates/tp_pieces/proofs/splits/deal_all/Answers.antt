@@ -1,6 +1,5 @@
 use Rattle.std.proofs.Common.{◌≡◌, ◌+◌, ◌++◌, ◌≤◌, Some, sym, ap, subst, ◌∙◌, arith, drop, length, length-drop, vec_len, map}
-use Rattle.std.specs.List.{slice_get}
-use Rattle.std.proofs.lemmas.List.{length-replicate}
+use Rattle.tp_pieces.proofs.Lower.{length-replicate, slice_get}
 use Rattle.tp_pieces.specs.Dealt.{first_of}
 use Rattle.tp_pieces.proofs.Dealt.{first_most}
 use Rattle.tp_pieces.specs.Blank.{blank_node}

@@ -1,5 +1,4 @@
-use Rattle.std.proofs.Common.{◌≡◌, ◌++◌, ◌∷◌, ◌≤◌, [], refl, sym, ap, subst, ◌∙◌, arith, length, map}
-use Rattle.std.specs.Prelude.{All}
+use Rattle.std.proofs.Common.{◌≡◌, ◌++◌, ◌∷◌, ◌≤◌, [], refl, sym, ap, subst, ◌∙◌, arith, length, map, All}
 use Rattle.tp_law_network.proofs.Room.{line_room}
 use Rattle.tp_pieces.specs.Whole.{AreWhole}
 use Rattle.tp_pieces.specs.declared.host.HostPart.TheInside.{Inside}

@@ -1,7 +1,5 @@
 use Rattle.std.proofs.Common.{◌≡◌, ◌-◌, ◌+◌, arith, sym, ap, ◌∙◌, subst}
-use Rattle.std.specs.List.{AllZip, range_with_len}
-use Rattle.rayon.specs.Lists.{filter_by_mask}
-use Rattle.std.specs.List.{slice_get}
+use Rattle.tp_pieces.proofs.Lower.{AllZip, range_with_len, filter_by_mask, slice_get}
 use Rattle.tp_pieces.proofs.First.{Tells, IsFirst, first_is, first_of_all}
 use Rattle.tp_pieces.proofs.stops.first_stop.Goals as goal
 

@@ -1,10 +1,6 @@
 use Rattle.std.proofs.Common.{◌≡◌, ◌<◌, ◌≤◌, sym, ap, subst, ◌∙◌, arith, Some, None}
 use Rattle.std.specs.Prelude.{is_some}
-use Rattle.std.proofs.lemmas.Bool.{true≢false}
-use Rattle.tp_model.specs.Node.{t414, node_step}
-use Rattle.tp_model.specs.Network.{steps}
-use Rattle.tp_law_machine.proofs.Nodes.{node_steps}
-use Rattle.tp_node.proofs.Answered.{why_most, why_fewer, lacking_frozen}
+use Rattle.tp_pieces.proofs.Lower.{true≢false, t414, node_step, steps, node_steps, why_most, why_fewer, lacking_frozen}
 use Rattle.tp_pieces.specs.Inside.{IsLive}
 use Rattle.tp_pieces.proofs.Fewer.{steps_fewer}
 use Rattle.tp_pieces.proofs.Turned.{turned_all, turned_none, turned_short}

@@ -1,9 +1,5 @@
 use Rattle.std.proofs.Common.{◌≡◌, ◌+◌, ◌≤◌, ◌++◌, ℕ, length, refl, sym, ap, ◌∙◌, arith, Option, Some, None, get_or, length-append}
-use Rattle.std.proofs.lemmas.List.{take_all}
-use Rattle.tp_model.specs.declared.link.Token.{Token}
-use Rattle.tp_model.specs.declared.link.Token.TheVariants.{Data}
-use Rattle.tp_model.specs.Node.{t414, on_link}
-use Rattle.tp_model.specs.Turn.{took_all}
+use Rattle.tp_pieces.proofs.Lower.{take_all, Token, Data, t414, on_link, took_all}
 use Rattle.tp_pieces.proofs.Turned.{took_next, took_stops, at_most_one}
 use Rattle.tp_pieces.proofs.turns.take_all.Goals as goal
 

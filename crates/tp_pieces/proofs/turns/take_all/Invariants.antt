@@ -1,6 +1,5 @@
 use Rattle.std.proofs.Common.{◌≡◌, ◌≤◌, length, take, Some}
-use Rattle.tp_model.specs.Node.{t414}
-use Rattle.tp_model.specs.Turn.{took_all}
+use Rattle.tp_pieces.proofs.Lower.{t414, took_all}
 use Rattle.tp_pieces.specs.Inside.{IsLive}
 use Rattle.tp_pieces.proofs.turns.take_all.Given as goal
 

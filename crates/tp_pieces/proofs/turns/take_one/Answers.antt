@@ -1,6 +1,5 @@
 use Rattle.std.proofs.Common.{◌∙◌}
-use Rattle.tp_law_machine.proofs.Nodes.{carries, node_took}
-use Rattle.tp_node.proofs.Answered.{takes_ok}
+use Rattle.tp_pieces.proofs.Lower.{carries, node_took, takes_ok}
 use Rattle.tp_pieces.proofs.turns.take_one.Goals as goal
 
 pub returns-in-Ok-Some-clause-live : goal.returns-in-Ok-Some-clause-live

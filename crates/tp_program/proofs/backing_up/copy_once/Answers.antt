@@ -1,9 +1,6 @@
-use Rattle.std.proofs.Common.{◌≡◌, ap, subst, sym, List, ℕ, Option, Some, None, Ok, Err, Result}
-use Rattle.std.specs.Prelude.{IfOk, IsSomeAnd}
-use Rattle.tp_recover.specs.Copies.{CopyAnswer, HasStayed, IsCopy, area_kept}
-use Rattle.tp_model.specs.Disk.{Moment}
-use Rattle.tp_model.specs.Opening.{Opened, verdict}
-use Rattle.tp_recover.proofs.Leaving.{then_leaves}
+use Rattle.std.proofs.Common.{◌≡◌, ap, subst, sym, List, ℕ, Option, Some, Ok, Err, Result}
+use Rattle.std.specs.Prelude.{None, IfOk, IsSomeAnd}
+use Rattle.tp_program.proofs.Lower.{CopyAnswer, HasStayed, IsCopy, area_kept, Moment, Opened, verdict, then_leaves}
 use Rattle.tp_program.specs.Backups.{IsBackup}
 use Rattle.tp_program.proofs.Stayed.{opened_stays}
 use Rattle.tp_program.proofs.backing_up.copy_once.Goals as goal

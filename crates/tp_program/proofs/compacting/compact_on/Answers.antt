@@ -1,10 +1,7 @@
 use Rattle.std.proofs.Common.{◌≡◌, refl, Err, Result}
 use Rattle.std.specs.Prelude.{IsErr}
-use Rattle.tp_recover.specs.declared.unopened.Unopened.{Unopened}
-use Rattle.tp_run.specs.declared.compacting.Compaction.{Compaction}
-use Rattle.tp_run.specs.declared.compacting.CompactFault.{CompactFault}
+use Rattle.tp_program.proofs.Lower.{Unopened, Compaction, CompactFault, StaysUnopened}
 use Rattle.tp_run.specs.declared.compacting.CompactFault.TheVariants.{Opening}
-use Rattle.tp_run.specs.Compacted.{StaysUnopened}
 use Rattle.tp_program.proofs.compacting.compact_on.Goals as goal
 
 pub returns-clause-done : goal.returns-clause-done

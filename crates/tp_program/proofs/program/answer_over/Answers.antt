@@ -17,8 +17,9 @@ returns-in-Ok-clause-answered g c = inr (record {
   places = c.in-Ok.ensures.places;
   few = c.answer_command.ensures.few;
   done = c.answer_command.ensures.done;
+  files = c.answer_command.ensures.used;
 })
 
 pub answer_command-requires : goal.answer_command-requires
 answer_command-requires g c κs within =
-    (within.0, (within.1.0, (within.1.1.0, (within.1.1.1.0, (within.1.1.1.1.0, (within.1.1.1.1.1.0, (within.1.1.1.1.1.1.0, (within.1.1.1.1.1.1.1.0, (within.1.1.1.1.1.1.1.1.0, (within.1.1.1.1.1.1.1.1.1, (search (rules, sendable), (search (rules, sendable), (search (rules, sendable), c.in-Ok.ensures.range)))))))))))))
+    (within.0, (within.1.0, (within.1.1.0, (within.1.1.1.0, (within.1.1.1.1.0, (within.1.1.1.1.1.0, (within.1.1.1.1.1.1.0, (within.1.1.1.1.1.1.1.0, (within.1.1.1.1.1.1.1.1.0, (within.1.1.1.1.1.1.1.1.1.0, (within.1.1.1.1.1.1.1.1.1.1, (search (rules, sendable), (search (rules, sendable), (search (rules, sendable), c.in-Ok.ensures.range))))))))))))))

@@ -1,8 +1,5 @@
 use Rattle.std.proofs.Common.{◌∙◌, sym, subst, ◌≤◌}
-use Rattle.tp_model.specs.Opening.{verdict}
-use Rattle.tp_run.specs.Answered.{AnswerFor}
-use Rattle.tp_run.specs.Ran.{RanInto}
-use Rattle.tp_run.specs.declared.job.Job.{Job}
+use Rattle.tp_program.proofs.Lower.{verdict, AnswerFor, RanInto, Job}
 use Rattle.tp_program.proofs.Statuses.{status_few, status_words, status_unopened}
 use Rattle.tp_program.proofs.running.run_on.Goals as goal
 

@@ -1,11 +1,7 @@
 use Rattle.std.proofs.Common.{◌≡◌, ◌∙◌, [], ap, rules, sym, subst, Ok, Err, Result}
+use Rattle.tp_program.proofs.Lower.{Unopened, Ended, StreamFault, Opening, StreamLeft}
 use denote.Param.Send.{sendable}
 use contract.BorrowLft.{◌⊑◌, ⊑_meet, ⊑_static}
-use Rattle.tp_recover.specs.declared.unopened.Unopened.{Unopened}
-use Rattle.tp_stream_files.specs.declared.ending.Ended.{Ended}
-use Rattle.tp_stream.specs.declared.fault.StreamFault.{StreamFault}
-use Rattle.tp_stream.specs.declared.fault.StreamFault.TheVariants.{Opening}
-use Rattle.tp_stream.specs.Streamed.{Streamed as StreamLeft}
 use Rattle.tp_program.proofs.Ends.{ends_streamed, ends_unopened, ends_unwritten}
 use Rattle.tp_program.proofs.streaming.stream_files.Goals as goal
 

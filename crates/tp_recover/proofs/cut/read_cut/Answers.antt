@@ -1,19 +1,10 @@
 use Rattle.std.proofs.Common.{◌≡◌, ◌+◌, ◌∙◌, ap, sym, subst, arith, rules, length, map, true, Ok, Err}
-use Rattle.tp_model.specs.Spelling.{are_lines}
-use Rattle.tp_book.specs.PortParts.{port_made}
-use Rattle.std.proofs.lemmas.List.{length-map}
-use Rattle.tp_model.specs.Device.{area_start, content_of}
-use Rattle.tp_model.specs.Flight.{flights_in}
-use Rattle.tp_model.specs.Node.{t414_ends}
-use Rattle.tp_model.specs.Opening.{base_of, cut_in}
-use Rattle.tp_model.specs.Results.{◌>>=◌}
-use Rattle.tp_model.specs.Topology.{is_topology, line_count}
+use Rattle.tp_recover.proofs.Lower.{are_lines, port_made, length-map, area_start, content_of, flights_in, t414_ends, base_of, cut_in, ◌>>=◌, is_topology, line_count, HasShape, has_shape}
 use Rattle.tp_recover.specs.Cuts.{network_of_cut, records_at}
 use Rattle.tp_recover.proofs.Cuts.{cut_in-records, cut_ok, cut_fault, cut_error, tested}
 use Rattle.tp_recover.specs.Nodes.{live_node, HaveImages}
 use Rattle.tp_recover.proofs.ReadParts.{parts_cut}
 use Rattle.tp_recover.proofs.Room.{area_room}
-use Rattle.tp_net.proofs.Topologies.{HasShape, has_shape}
 use Rattle.tp_recover.proofs.cut.read_cut.Given as given
 use Rattle.tp_recover.proofs.cut.read_cut.Goals as goal
 use Rattle.tp_recover.proofs.cut.read_cut.Goals.{After-read_records, After-wires, After-wires-2}

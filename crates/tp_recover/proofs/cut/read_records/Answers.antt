@@ -1,9 +1,6 @@
 use Rattle.std.proofs.Common.{◌≡◌, ◌∙◌, ap, sym, rules, Err, Ok, drop, map}
-use Rattle.tp_model.specs.CutImage.{nodes_in, lines_in, ports_in}
-use Rattle.tp_model.specs.Spelling.{are_lines}
-use Rattle.tp_book.specs.PortParts.{port_made}
+use Rattle.tp_recover.proofs.Lower.{nodes_in, lines_in, ports_in, are_lines, port_made, tokens_on}
 use Rattle.tp_recover.specs.Cuts.{network_of_cut, wired}
-use Rattle.tp_area.specs.Lines.{tokens_on}
 use Rattle.tp_recover.specs.Nodes.{live_node}
 use Rattle.tp_recover.proofs.Cuts.{first_error, second_error, third_error, all_read, lines_then, ports_then}
 use Rattle.tp_recover.proofs.Leaving.{then_leaves}

@@ -1,9 +1,6 @@
 use Rattle.std.proofs.Common.{◌∙◌, ◌%◌, ◌/◌, sym, refl, arith, ap, length, option_map}
-use Rattle.std.proofs.lemmas.List.{length-map}
-use Rattle.std.proofs.lemmas.Option.{slice_get-map, slice_get_read}
-use Rattle.tp_model.specs.Node.{t414_ends}
+use Rattle.tp_recover.proofs.Lower.{length-map, slice_get-map, slice_get_read, t414_ends, end_holds-link, end_holds-port}
 use Rattle.tp_recover.specs.Parts.{network_of_parts}
-use Rattle.tp_law_network.proofs.InPlace.{end_holds-link, end_holds-port}
 use Rattle.tp_recover.proofs.flights.end_holds.Goals as goal
 
 pub returns-then-line-links : goal.returns-then-line-links

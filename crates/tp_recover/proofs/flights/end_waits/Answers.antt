@@ -1,12 +1,7 @@
-use Rattle.std.proofs.Common.{◌≡◌, ◌∙◌, ◌%◌, ◌/◌, ◌-◌, ◌*◌, ℕ, List, [], ◌∷◌, sym, refl, arith, ap, map, length, option_map, slice_get, vec_len, not, ◌==◌}
-use Rattle.std.proofs.lemmas.List.{length-map}
-use Rattle.std.proofs.lemmas.Bool.{ne_eqb}
-use Rattle.std.proofs.lemmas.Option.{slice_get-map, slice_get_read}
-use Rattle.tp_model.specs.Node.{t414_ends}
-use Rattle.tp_model.specs.Sound.{is_pending, is_some_byte}
-use Rattle.tp_book.specs.PortParts.{port_made}
+use Rattle.std.proofs.Common.{◌≡◌, ◌∙◌, ◌%◌, ◌/◌, ◌-◌, ◌*◌, ℕ, List, [], ◌∷◌, sym, refl, arith, ap, map, length, slice_get, not, option_map}
+use Rattle.std.specs.Prelude.{vec_len, ◌==◌}
+use Rattle.tp_recover.proofs.Lower.{length-map, ne_eqb, slice_get-map, slice_get_read, t414_ends, is_pending, is_some_byte, port_made, end_waits-link, end_waits-port}
 use Rattle.tp_recover.specs.Parts.{network_of_parts}
-use Rattle.tp_law_network.proofs.InPlace.{end_waits-link, end_waits-port}
 use Rattle.tp_recover.proofs.flights.end_waits.Goals as goal
 
 some_byte : (bytes : List ℕ) → not (length bytes == 0) ≡ is_some_byte bytes

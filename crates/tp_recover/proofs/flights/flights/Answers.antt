@@ -1,11 +1,5 @@
 use Rattle.std.proofs.Common.{◌≡◌, ◌∙◌, ◌+◌, ◌*◌, ◌-◌, ℕ, suc, true, false, sym, arith, ap, length, cond, Ok, Err}
-use Rattle.tp_model.specs.declared.limits.TheConstants.{LINE_BYTES}
-use Rattle.tp_model.specs.declared.opening.OpenFault.TheVariants.{Damaged}
-use Rattle.tp_model.specs.NodeState.{NodeState}
-use Rattle.tp_model.specs.Network.{Network, back}
-use Rattle.tp_model.specs.Sound.{EndsSeen}
-use Rattle.tp_model.specs.Node.{t414_ends}
-use Rattle.tp_model.specs.Flight.{is_in_one_place, flights_in}
+use Rattle.tp_recover.proofs.Lower.{LINE_BYTES, Damaged, NodeState, Network, back, EndsSeen, t414_ends, is_in_one_place, flights_in}
 use Rattle.tp_recover.specs.Parts.{network_of_parts}
 use Rattle.tp_recover.proofs.flights.flights.Goals as goal
 

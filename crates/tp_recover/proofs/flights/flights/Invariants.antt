@@ -1,7 +1,5 @@
 use Rattle.std.proofs.Common.{◌≡◌, ◌+◌, ◌*◌, ◌-◌, length}
-use Rattle.tp_model.specs.declared.limits.TheConstants.{LINE_BYTES}
-use Rattle.tp_model.specs.Node.{t414_ends}
-use Rattle.tp_model.specs.Flight.{flights_in}
+use Rattle.tp_recover.proofs.Lower.{LINE_BYTES, t414_ends, flights_in}
 use Rattle.tp_recover.specs.Parts.{network_of_parts}
 use Rattle.tp_recover.proofs.flights.flights.Given as goal
 

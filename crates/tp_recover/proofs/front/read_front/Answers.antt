@@ -1,7 +1,5 @@
 use Rattle.std.proofs.Common.{◌≡◌, ◌∙◌, sym, ap, arith}
-use Rattle.tp_model.specs.Device.{area_start, content_of}
-use Rattle.tp_model.specs.Journal.{cut_length}
-use Rattle.tp_area.specs.Fronts.{front_given}
+use Rattle.tp_recover.proofs.Lower.{area_start, content_of, cut_length, front_given}
 use Rattle.tp_recover.proofs.Ages.{front_age}
 use Rattle.tp_recover.proofs.Areas.{front_given-read}
 use Rattle.tp_recover.proofs.Passing.{found_is}

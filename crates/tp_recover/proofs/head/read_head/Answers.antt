@@ -1,12 +1,7 @@
 use Rattle.std.proofs.Common.{◌≡◌, ◌∙◌, ap, sym, subst, arith, length, take, Ok}
-use Rattle.tp_model.specs.Head.{Head, head_of}
-use Rattle.tp_model.specs.declared.head.HeadVersion.TheVariants.{Narrow, Wide}
-use Rattle.tp_model.specs.declared.limits.TheConstants.{NARROW_HEAD_BYTES}
-use Rattle.tp_model.specs.Disk.{Moment}
+use Rattle.tp_recover.proofs.Lower.{Head, head_of, Narrow, Wide, NARROW_HEAD_BYTES, Moment, head_of-faulty, head_of-read, head_of-short, version_in}
 use Rattle.tp_recover.specs.Reading.{ReadAnswer}
 use Rattle.tp_recover.proofs.Passing.{found_is, told_fault}
-use Rattle.tp_area.proofs.Heads.{head_of-faulty, head_of-read, head_of-short}
-use Rattle.tp_area.specs.Heads.{version_in}
 use Rattle.tp_recover.proofs.Leaving.{none_leaves}
 use Rattle.tp_recover.proofs.head.read_head.Goals as goal
 use Rattle.tp_recover.proofs.head.read_head.Goals.{in-Ok-Narrow, in-Ok-Wide, in-Err}

@@ -1,7 +1,5 @@
 use Rattle.std.proofs.Common.{◌∙◌, refl, sym, subst, arith}
-use Rattle.tp_model.specs.Head.{Head}
-use Rattle.tp_model.specs.declared.head.HeadVersion.TheVariants.{Wide}
-use Rattle.tp_area.proofs.Heads.{head_of-cut_off, head_of-read}
+use Rattle.tp_recover.proofs.Lower.{Head, Wide, head_of-cut_off, head_of-read}
 use Rattle.tp_recover.specs.Reading.{ReadAnswer}
 use Rattle.tp_recover.proofs.Leaving.{none_leaves}
 use Rattle.tp_recover.proofs.Passing.{found_is, still_counts, still_kept}

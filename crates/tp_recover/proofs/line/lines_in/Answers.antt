@@ -1,6 +1,5 @@
 use Rattle.std.proofs.Common.{arith, map}
-use Rattle.tp_law_device.proofs.ReadCuts.{lines_read}
-use Rattle.tp_area.specs.Lines.{tokens_on}
+use Rattle.tp_recover.proofs.Lower.{lines_read, tokens_on}
 use Rattle.tp_recover.proofs.Records.{lines_in-step, lines_in-fault, lines_in-end}
 use Rattle.tp_recover.proofs.line.lines_in.Goals as goal
 

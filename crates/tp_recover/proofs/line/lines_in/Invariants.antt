@@ -1,8 +1,6 @@
 -- The lines that were read, and those in the rest, are all.
 use Rattle.std.proofs.Common.{◌≡◌, ◌+◌, ◌*◌, ◌-◌, drop, length, map}
-use Rattle.tp_model.specs.declared.limits.TheConstants.{LINE_BYTES}
-use Rattle.tp_model.specs.CutImage.{lines_in}
-use Rattle.tp_area.specs.Lines.{tokens_on}
+use Rattle.tp_recover.proofs.Lower.{LINE_BYTES, lines_in, tokens_on}
 use Rattle.tp_recover.proofs.Records.{behind}
 use Rattle.tp_recover.proofs.line.lines_in.Given as goal
 

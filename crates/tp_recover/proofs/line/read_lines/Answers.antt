@@ -1,6 +1,5 @@
 use Rattle.std.proofs.Common.{◌≡◌, ◌*◌, ◌∙◌, ap, sym, length, arith, drop}
-use Rattle.tp_model.specs.declared.limits.TheConstants.{LINE_BYTES}
-use Rattle.tp_model.specs.CutImage.{lines_in}
+use Rattle.tp_recover.proofs.Lower.{LINE_BYTES, lines_in}
 use Rattle.tp_recover.proofs.Passing.{found_is, still_kept, still_counts}
 use Rattle.tp_recover.proofs.Records.{lines_in-take}
 use Rattle.tp_recover.proofs.line.read_lines.Goals as goal

@@ -1,10 +1,5 @@
 use Rattle.std.proofs.Common.{◌≡◌, ◌∙◌, ◌*◌, ℕ, List, ◌++◌, length, length-append, ap, arith}
-use Rattle.tp_model.specs.CutImage.{or_damaged}
-use Rattle.tp_model.specs.declared.limits.TheConstants.{IMAGE_HEAD_BYTES}
-use Rattle.tp_model.specs.Image.{node_of}
-use Rattle.tp_model.specs.Journal.{image_length}
-use Rattle.tp_node.proofs.Answered.{image_read}
-use Rattle.tp_law_machine.proofs.Numbers.{are_bytes, are_bytes-append}
+use Rattle.tp_recover.proofs.Lower.{or_damaged, IMAGE_HEAD_BYTES, node_of, image_length, image_read, are_bytes, are_bytes-append}
 use Rattle.tp_recover.proofs.ReadParts.{node_imaged}
 use Rattle.tp_recover.proofs.Nodes.{node_with-whole}
 use Rattle.tp_recover.proofs.node.node_in.Goals as goal

@@ -1,9 +1,7 @@
 -- The nodes that were read, and those after them, are all.
 use Rattle.std.proofs.Common.{◌≡◌, ◌+◌, take, drop, length, map, true}
 use Rattle.std.specs.Prelude.{sum_by}
-use Rattle.tp_model.specs.CutImage.{nodes_in}
-use Rattle.tp_model.specs.DiskHistory.{State, Counts}
-use Rattle.tp_model.specs.Journal.{image_length}
+use Rattle.tp_recover.proofs.Lower.{nodes_in, State, Counts, image_length}
 use Rattle.tp_recover.specs.Nodes.{live_node, AreAllThawed, HaveImages}
 use Rattle.tp_recover.specs.Reading.{LeavesNothingNew}
 use Rattle.tp_recover.proofs.Records.{behind}

@@ -1,6 +1,5 @@
 use Rattle.std.proofs.Common.{◌≡◌, Bool, rules, ap, subst, Ok, Err}
-use Rattle.tp_model.specs.Head.{Head}
-use Rattle.tp_model.specs.Opening.{chosen_area}
+use Rattle.tp_recover.proofs.Lower.{Head, chosen_area}
 use Rattle.tp_recover.specs.Chosen.{chosen_in}
 use Rattle.tp_recover.specs.Reading.{ReadAnswer}
 use Rattle.tp_recover.proofs.Leaving.{sync_leaves, then_leaves}

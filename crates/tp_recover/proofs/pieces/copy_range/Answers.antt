@@ -1,6 +1,6 @@
 use Rattle.std.proofs.Common.{rules, arith, ◌+◌, ◌≤◌, ap, ◌∙◌}
-use Rattle.tp_recover.proofs.Ranges.{piece_copied}
 use Rattle.tp_model.specs.Disk.{Moment}
+use Rattle.tp_recover.proofs.Ranges.{piece_copied}
 use Rattle.tp_recover.proofs.Leaving.{then_leaves}
 use Rattle.tp_recover.proofs.pieces.copy_range.Goals as goal
 

@@ -1,7 +1,5 @@
 use Rattle.std.proofs.Common.{◌≡◌, ◌∙◌, sym, ap, subst, length, true, Ok}
-use Rattle.std.specs.Option.{option_map}
-use Rattle.tp_area.specs.Ports.{port_said as record_of}
-use Rattle.tp_model.specs.CutImage.{is_port_of, or_damaged}
+use Rattle.tp_recover.proofs.Lower.{option_map, record_of, is_port_of, or_damaged}
 use Rattle.tp_recover.proofs.Passing.{found_is}
 use Rattle.tp_recover.proofs.Ports.{port_read}
 use Rattle.tp_recover.proofs.ReadParts.{port_reached}

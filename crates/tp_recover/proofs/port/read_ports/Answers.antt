@@ -1,6 +1,5 @@
 use Rattle.std.proofs.Common.{◌≡◌, ◌+◌, ◌∙◌, length, ap, arith, map, rules, Err}
-use Rattle.std.proofs.lemmas.List.{length_push, map_push}
-use Rattle.tp_book.specs.PortParts.{port_made}
+use Rattle.tp_recover.proofs.Lower.{length_push, map_push, port_made}
 use Rattle.tp_recover.proofs.Ports.{ports_in-step, ports_in-error, ports_in-end}
 use Rattle.tp_recover.proofs.ReadParts.{reached_more}
 use Rattle.tp_recover.proofs.Leaving.{none_leaves, then_leaves}

@@ -1,9 +1,6 @@
 -- The ports that were read, and those after them, are all.
 use Rattle.std.proofs.Common.{◌≡◌, ◌+◌, ◌*◌, ◌-◌, drop, length, map, true}
-use Rattle.tp_book.specs.PortParts.{port_made}
-use Rattle.tp_model.specs.declared.limits.TheConstants.{PORT_BYTES}
-use Rattle.tp_model.specs.CutImage.{ports_in}
-use Rattle.tp_model.specs.DiskHistory.{State, Counts}
+use Rattle.tp_recover.proofs.Lower.{port_made, PORT_BYTES, ports_in, State, Counts}
 use Rattle.tp_recover.specs.Ports.{ArePorts}
 use Rattle.tp_recover.specs.Reading.{LeavesNothingNew}
 use Rattle.tp_recover.proofs.Records.{behind}

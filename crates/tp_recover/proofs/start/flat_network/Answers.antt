@@ -1,7 +1,5 @@
 use Rattle.std.proofs.Common.{◌∙◌, ap, sym, subst, map}
-use Rattle.tp_book.specs.PortParts.{port_made}
-use Rattle.tp_book.specs.Ports.{opened_port}
-use Rattle.tp_replay.specs.Flat.{IsFlat}
+use Rattle.tp_recover.proofs.Lower.{port_made, opened_port, IsFlat}
 use Rattle.tp_recover.proofs.Starts.{network_again, thawed_at}
 use Rattle.tp_recover.proofs.start.flat_network.Goals as goal
 

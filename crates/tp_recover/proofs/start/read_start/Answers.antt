@@ -1,9 +1,5 @@
 use Rattle.std.proofs.Common.{rules, ◌≡◌, ◌∙◌, ap, sym, subst, Err}
-use Rattle.tp_model.specs.Network.{Network}
-use Rattle.tp_model.specs.Node.{t414_ends}
-use Rattle.tp_model.specs.NodeState.{NodeState}
-use Rattle.tp_book.specs.Counted.{AreCounted}
-use Rattle.tp_replay.specs.Flat.{IsFlat}
+use Rattle.tp_recover.proofs.Lower.{Network, t414_ends, NodeState, AreCounted, IsFlat}
 use Rattle.tp_recover.specs.Cuts.{network_of_cut}
 use Rattle.tp_recover.proofs.CutsAreFlat.{cut_flat, cut_counted, cut_held}
 use Rattle.tp_recover.proofs.Starts.{cut_unread, lines_few, pending_few, outputs_few}

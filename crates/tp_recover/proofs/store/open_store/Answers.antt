@@ -1,6 +1,6 @@
-use Rattle.std.proofs.Common.{◌≡◌, ℕ, rules, false, Result, Err}
-use Rattle.tp_model.specs.DiskHistory.{Counts}
-use Rattle.tp_model.specs.Opening.{Opened}
+use Rattle.std.proofs.Common.{◌≡◌, ℕ, rules, false, Err}
+use Rattle.std.specs.Prelude.{Result}
+use Rattle.tp_recover.proofs.Lower.{Counts, Opened}
 use Rattle.tp_recover.specs.declared.unopened.Unopened.{Unopened}
 use Rattle.tp_recover.specs.declared.unopened.Unopened.TheVariants.{Fault, ReadFailed, Memory}
 use Rattle.tp_recover.specs.Reading.{has_read}

@@ -1,9 +1,5 @@
 use Rattle.std.proofs.Common.{length, map, sym, ap, ◌∙◌, Some}
-use Rattle.std.proofs.lemmas.List.{map-id}
-use Rattle.std.proofs.lemmas.Option.{slice_get-get_or}
-use Rattle.std.proofs.lemmas.Iterator.Adapters.{YieldsList-from_vec}
-use Rattle.std.proofs.lemmas.Iterator.Consumers.{YieldsList-end, YieldsList-turn}
-use Rattle.tp_model.specs.Image.{image}
+use Rattle.tp_replay.proofs.Lower.{map-id, slice_get-get_or, YieldsList-from_vec, YieldsList-end, YieldsList-turn, image}
 use Rattle.tp_replay.proofs.image.images_taken.Goals as goal
 
 pub image_of-requires : goal.image_of-requires

@@ -1,8 +1,6 @@
 -- The head and the pages so far come after what was there.
 use Rattle.std.proofs.Common.{◌≡◌, ◌*◌, ◌++◌, Some, take}
-use Rattle.tp_model.specs.Image.{image_head}
-use Rattle.tp_model.specs.NodeState.{NodeState}
-use Rattle.tp_model.specs.declared.limits.TheConstants.{PAGE_BYTES}
+use Rattle.tp_replay.proofs.Lower.{image_head, NodeState, PAGE_BYTES}
 use Rattle.tp_replay.proofs.image.put_frozen.Given as goal
 
 abbrev pub invariant-loop-i : goal.invariant-loop-i

@@ -1,6 +1,5 @@
 use Rattle.std.proofs.Common.{length, arith}
-use Rattle.tp_model.specs.Node.{t414_ends}
-use Rattle.tp_law_network.proofs.InPlace.{flights_found, sound_in_place}
+use Rattle.tp_replay.proofs.Lower.{t414_ends, flights_found, sound_in_place}
 use Rattle.tp_replay.proofs.laws.cuts_are_sound.Goals as goal
 
 pub returns : goal.returns

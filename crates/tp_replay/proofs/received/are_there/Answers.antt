@@ -1,4 +1,5 @@
-use Rattle.std.proofs.Common.{◌+◌, ◌&&◌, drop, sym, ap, ◌∙◌, arith}
+use Rattle.std.proofs.Common.{◌+◌, drop, sym, ap, ◌∙◌, arith}
+use Rattle.std.specs.Prelude.{◌&&◌}
 use Rattle.std.proofs.lemmas.List.{drop_all}
 use Rattle.tp_replay.proofs.Stands.{all_stand, stand_from, stand_is}
 use Rattle.tp_replay.proofs.received.are_there.Goals as goal

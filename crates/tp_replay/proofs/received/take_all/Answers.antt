@@ -1,11 +1,6 @@
 use Rattle.std.proofs.Common.{◌+◌, length, drop, get_or, sym, ap, ◌∙◌, arith}
 use Rattle.std.specs.Prelude.{is_some}
-use Rattle.std.specs.Option.{option_map}
-use Rattle.std.proofs.lemmas.List.{length-append}
-use Rattle.tp_model.specs.declared.link.Token.TheVariants.{Data}
-use Rattle.tp_model.specs.Node.{t414, on_link}
-use Rattle.tp_model.specs.Turn.{took_all}
-use Rattle.tp_node.proofs.Answered.{takes_ok}
+use Rattle.tp_replay.proofs.Lower.{option_map, length-append, Data, t414, on_link, took_all, takes_ok}
 use Rattle.tp_replay.proofs.TakenAll.{with_answers, next_taken, taken_behind, on_link_few, answers_twice, all_done}
 use Rattle.tp_replay.proofs.received.take_all.Goals as goal
 

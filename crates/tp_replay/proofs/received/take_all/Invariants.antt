@@ -1,8 +1,6 @@
 -- The node can take the tokens that are left, and what it has answered and answers to them is what it answers to all.
 use Rattle.std.proofs.Common.{◌≡◌, ◌≤◌, IsSome, None, length, drop}
-use Rattle.std.specs.Option.{option_map}
-use Rattle.tp_model.specs.Node.{t414}
-use Rattle.tp_model.specs.Turn.{took_all}
+use Rattle.tp_replay.proofs.Lower.{option_map, t414, took_all}
 use Rattle.tp_replay.proofs.TakenAll.{with_answers}
 use Rattle.tp_replay.proofs.received.take_all.Given as goal
 

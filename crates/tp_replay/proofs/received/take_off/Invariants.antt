@@ -1,7 +1,6 @@
 -- The tokens that are left can be taken, and lead where all of them lead.
 use Rattle.std.proofs.Common.{◌≡◌, IsSome, drop}
-use Rattle.tp_model.specs.Network.{taken}
-use Rattle.tp_model.specs.Turn.{by_line}
+use Rattle.tp_replay.proofs.Lower.{taken, by_line}
 use Rattle.tp_replay.proofs.received.take_off.Given as goal
 
 abbrev pub invariant-loop-m : goal.invariant-loop-m

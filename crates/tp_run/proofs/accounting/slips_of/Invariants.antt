@@ -1,5 +1,5 @@
-use Rattle.std.proofs.Common.{◌≡◌}
-use Rattle.std.specs.Prelude.{◌++◌, flat_map}
+use Rattle.std.proofs.Common.{◌≡◌, ◌++◌}
+use Rattle.std.specs.Prelude.{flat_map}
 use Rattle.tp_run.proofs.accounting.slips_of.Given as goal
 
 abbrev pub invariant-loop-seat : goal.invariant-loop-seat

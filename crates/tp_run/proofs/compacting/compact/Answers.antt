@@ -1,20 +1,13 @@
-use Rattle.std.proofs.Common.{◌≡◌, ◌≤◌, ◌+◌, ℕ, arith, refl, sym, ap, subst, ◌∙◌}
-use Rattle.tp_model.specs.Disk.{Moment}
-use Rattle.tp_model.specs.Topology.{Topology}
-use Rattle.tp_flush.specs.Known.{Began}
-use Rattle.tp_model.specs.Opening.{Opened}
+use Rattle.std.proofs.Common.{◌≡◌, ◌≤◌, ◌+◌, ℕ, arith, refl, sym, ap, subst, ◌∙◌, Err}
+use Rattle.tp_run.proofs.Lower.{Moment, Topology, Began, Opened, Place, has_shape, is_full_for_snapshot}
 use Rattle.tp_run.specs.declared.compacting.CompactFault.TheVariants.{Opening, Memory}
 use Rattle.tp_run.specs.Compacted.{Compacted, SaysLast, has_failed_in}
-use Rattle.std.specs.Prelude.{Err}
-use Rattle.tp_area.specs.declared.place.Place.{Place}
 use Rattle.tp_run.specs.Compacted.{room_behind}
-use Rattle.tp_net.proofs.Topologies.{has_shape}
 use Rattle.tp_run.proofs.Runs.{if_both}
 use Rattle.tp_run.proofs.Answered.{compact_answered}
 use Rattle.tp_run.proofs.Compacts.{last_compacted, opened_compacted, unwritten_compacted}
 use Rattle.tp_run.proofs.Failures.{opening_counted}
 use Rattle.tp_run.specs.Failures.{failures_after}
-use Rattle.tp_model.specs.Journal.{is_full_for_snapshot}
 use Rattle.tp_run.proofs.compacting.compact.Goals as goal
 
 pub compact_parts-requires-clause-names : goal.compact_parts-requires-clause-names

@@ -1,11 +1,5 @@
 use Rattle.std.proofs.Common.{◌≡◌, Ok, sym, ap, subst, ◌∙◌}
-use Rattle.tp_area.specs.declared.place.Place.{Place}
-use Rattle.tp_model.specs.Journal.{is_full_for_snapshot}
-use Rattle.tp_model.specs.NodeState.{NodeState}
-use Rattle.tp_model.specs.DiskHistory.{State}
-use Rattle.tp_model.specs.Opening.{held_of, verdict}
-use Rattle.tp_model.specs.Runs.{World, reopened}
-use Rattle.tp_flush.specs.Known.{Began}
+use Rattle.tp_run.proofs.Lower.{Place, is_full_for_snapshot, NodeState, State, held_of, verdict, World, reopened, Began}
 use Rattle.tp_run.specs.Compacted.{Compacted, SaysLast, has_failed_in}
 use Rattle.tp_run.specs.Failures.{failures_after}
 use Rattle.tp_run.proofs.Compacts.{walked_compacted}

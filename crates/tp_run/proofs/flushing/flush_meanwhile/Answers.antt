@@ -1,7 +1,5 @@
 use Rattle.std.proofs.Common.{sym, subst, ap, ◌∙◌}
-use Rattle.tp_flush.specs.Known.{Began}
-use Rattle.tp_flush.specs.Flushing.{Flushing, IsSameProcess, Walked}
-use Rattle.tp_flush.proofs.Turns.{walked_nowhere, walked_then}
+use Rattle.tp_run.proofs.Lower.{Began, Flushing, IsSameProcess, Walked, walked_nowhere, walked_then}
 use Rattle.tp_run.specs.Failures.{CountsFailures}
 use Rattle.tp_run.proofs.Failures.{failures_then, none_failed, turn_failures}
 use Rattle.tp_run.proofs.flushing.flush_meanwhile.Goals as goal

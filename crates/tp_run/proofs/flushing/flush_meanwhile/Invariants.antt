@@ -1,5 +1,4 @@
-use Rattle.tp_flush.specs.Known.{Began}
-use Rattle.tp_flush.specs.Flushing.{IsSameProcess, Walked}
+use Rattle.tp_run.proofs.Lower.{Began, IsSameProcess, Walked}
 use Rattle.tp_run.specs.Failures.{CountsFailures}
 use Rattle.tp_run.proofs.flushing.flush_meanwhile.Given as goal
 

@@ -1,8 +1,5 @@
 use Rattle.std.proofs.Common.{Ok, Err, length, ap, subst, ◌∙◌}
-use Rattle.tp_book.specs.Covered.{ReceiptValue}
-use Rattle.tp_book.specs.Host.{accepted_of, port_in, room_of}
-use Rattle.tp_work.specs.Answers.{RefusesFor}
-use Rattle.tp_work.specs.declared.host_fault.OfferFault.{OfferFault}
+use Rattle.tp_run.proofs.Lower.{ReceiptValue, accepted_of, port_in, room_of, RefusesFor, OfferFault}
 use Rattle.tp_run.specs.declared.fault.RunFault.TheVariants.{Memory}
 use Rattle.tp_run.specs.Input.{rest_fault, input_rest}
 use Rattle.tp_run.proofs.Reasons.{rest_refused, told_rest}

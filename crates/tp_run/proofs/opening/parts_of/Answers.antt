@@ -1,7 +1,6 @@
 use Rattle.std.proofs.Common.{Some, sym, ap, subst, ◌<◌, length, ◌∙◌}
-use Rattle.tp_book.specs.Book.{BookValue, next_in_book}
+use Rattle.tp_run.proofs.Lower.{BookValue, next_in_book, kept_is, ports_are, stands}
 use Rattle.tp_run.specs.Outset.{outset_of}
-use Rattle.tp_flush.proofs.Made.{kept_is, ports_are, stands}
 use Rattle.tp_run.proofs.Made.{outset_is}
 use Rattle.tp_run.proofs.opening.parts_of.Goals as goal
 

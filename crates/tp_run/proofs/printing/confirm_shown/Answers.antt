@@ -1,8 +1,5 @@
 use Rattle.std.proofs.Common.{Ok, Err, ap, subst, ◌∙◌}
-use Rattle.tp_book.specs.Covered.{ReceiptValue}
-use Rattle.tp_book.specs.Host.{shown_upto_of}
-use Rattle.tp_work.specs.Answers.{RefusesFor}
-use Rattle.tp_work.specs.declared.host_fault.ConfirmFault.{ConfirmFault}
+use Rattle.tp_run.proofs.Lower.{ReceiptValue, shown_upto_of, RefusesFor, ConfirmFault}
 use Rattle.tp_run.specs.declared.fault.RunFault.TheVariants.{Memory}
 use Rattle.tp_run.specs.Output.{unconfirmed_fault}
 use Rattle.tp_run.proofs.Reasons.{shown_refused, told_confirm}

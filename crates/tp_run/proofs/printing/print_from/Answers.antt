@@ -1,6 +1,6 @@
-use Rattle.std.proofs.Common.{rules, ◌≡◌, ◌≤◌, length, inl, Err, refl, sym, ap, subst, ◌∙◌, IfOk}
-use Rattle.tp_book.specs.Book.{next_in_book}
-use Rattle.tp_book.specs.Host.{port_in, shown_of}
+use Rattle.std.proofs.Common.{rules, ◌≡◌, ◌≤◌, length, inl, Err, refl, sym, ap, subst, ◌∙◌}
+use Rattle.std.specs.Prelude.{IfOk}
+use Rattle.tp_run.proofs.Lower.{next_in_book, port_in, shown_of}
 use Rattle.tp_run.specs.Output.{AreOutputs, IsForOutput, ShowsAll}
 use Rattle.tp_run.specs.Prints.{ComesSilent, MayBeSilent}
 use Rattle.tp_run.proofs.Shown.{are_outputs, if_made, output_like, printed_of}

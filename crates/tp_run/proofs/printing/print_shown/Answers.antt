@@ -1,7 +1,5 @@
 use Rattle.std.proofs.Common.{◌≡◌, Err, length, rules, sym, ap, subst, ◌∙◌}
-use Rattle.tp_book.specs.Calls.{marks_of}
-use Rattle.tp_book.specs.Covered.{ReceiptValue}
-use Rattle.tp_book.specs.Host.{port_in, shown_from}
+use Rattle.tp_run.proofs.Lower.{marks_of, ReceiptValue, port_in, shown_from}
 use Rattle.tp_run.specs.Prints.{PrintsAt}
 use Rattle.tp_run.proofs.Shown.{fault_of, fault_says, printed_is, prints_at, prints_on}
 use Rattle.tp_run.proofs.printing.print_shown.Goals as goal

@@ -1,7 +1,5 @@
 use Rattle.std.proofs.Common.{rules, ◌≡◌, ℕ, ◌+◌, List, [], ◌∷◌, take, drop, drop-drop, Ok, Err, sym, ap, subst, ◌∙◌}
-use Rattle.std.proofs.lemmas.List.{take_rest}
-use Rattle.std.specs.Io.KnownBytes.{Appends}
-use Rattle.tp_stream_files.proofs.Fronts.{more_appended, kept_appended}
+use Rattle.tp_run.proofs.Lower.{take_rest, Appends, more_appended, kept_appended}
 use Rattle.tp_run.specs.Outlet.{CallsMore, rest_behind}
 use Rattle.tp_run.specs.declared.outlet.OutletFault.{OutletFault}
 use Rattle.tp_run.proofs.Called.{CalledFor, called_on, some_left, was_called}

@@ -1,8 +1,5 @@
 use Rattle.std.proofs.Common.{◌≡◌, sym, ap, ◌∙◌}
-use Rattle.tp_model.specs.Markers.{plain_network}
-use Rattle.tp_book.specs.Book.{next_in_book, world_of}
-use Rattle.tp_shared.specs.Resting.{rest_in}
-use Rattle.tp_shared.specs.Seals.{Stage}
+use Rattle.tp_run.proofs.Lower.{plain_network, next_in_book, world_of, rest_in, Stage}
 use Rattle.tp_run.proofs.Rested.{done_rests}
 use Rattle.tp_run.proofs.resting.rest_after.Goals as goal
 

@@ -1,10 +1,6 @@
 use Rattle.std.proofs.Common.{◌≡◌, ◌<◌, length, Err, Some, None, false, refl, sym, ap, subst, ◌∙◌}
 use Rattle.std.specs.Prelude.{nat_lt, IfErr, IfOk}
-use Rattle.tp_model.specs.Disk.{Moment}
-use Rattle.tp_model.specs.Head.{Head}
-use Rattle.tp_model.specs.Topology.{Topology}
-use Rattle.tp_flush.specs.Known.{Began}
-use Rattle.tp_model.specs.Opening.{Opened}
+use Rattle.tp_run.proofs.Lower.{Moment, Head, Topology, Began, Opened}
 use Rattle.tp_run.specs.declared.fault.RunFault.TheVariants.{Opening, Memory, OfferRefused}
 use Rattle.tp_run.specs.declared.outset.Outset.{Outset}
 use Rattle.tp_run.specs.Input.{rest_at}

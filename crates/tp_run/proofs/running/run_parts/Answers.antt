@@ -1,12 +1,7 @@
-use Rattle.std.proofs.Common.{◌≡◌, Ok, Err, Some, false, refl, ap, sym, subst, ◌∙◌}
-use Rattle.std.specs.Prelude.{[], All, IfOk}
-use Rattle.tp_model.specs.DiskHistory.{State}
-use Rattle.tp_model.specs.Opening.{held_of, verdict}
-use Rattle.tp_model.specs.Runs.{World, reopened}
-use Rattle.tp_flush.specs.Known.{Began}
+use Rattle.std.proofs.Common.{◌≡◌, Ok, Err, Some, false, refl, ap, sym, subst, ◌∙◌, []}
+use Rattle.std.specs.Prelude.{All, IfOk}
+use Rattle.tp_run.proofs.Lower.{State, held_of, verdict, World, reopened, Began, NodeState, Network}
 use Rattle.tp_run.specs.declared.fault.RunFault.TheVariants.{Memory}
-use Rattle.tp_model.specs.NodeState.{NodeState}
-use Rattle.tp_model.specs.Network.{Network}
 use Rattle.tp_run.specs.Input.{input_slips}
 use Rattle.tp_run.specs.Outset.{outset_in}
 use Rattle.tp_run.specs.declared.outset.Outset.{Outset}

@@ -1,6 +1,6 @@
-use Rattle.std.proofs.Common.{refl, sym, ap, subst, ◌∙◌, IfOk}
-use Rattle.tp_flush.specs.Known.{Began}
-use Rattle.tp_flush.specs.Flushing.{Flushing, Walked}
+use Rattle.std.proofs.Common.{refl, sym, ap, subst, ◌∙◌}
+use Rattle.std.specs.Prelude.{IfOk}
+use Rattle.tp_run.proofs.Lower.{Began, Flushing, Walked}
 use Rattle.tp_run.specs.Input.{input_slips}
 use Rattle.tp_run.specs.Ran.{Settled}
 use Rattle.tp_run.specs.Rested.{SaysRest}

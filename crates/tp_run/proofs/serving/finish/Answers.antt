@@ -1,10 +1,6 @@
-use Rattle.std.proofs.Common.{◌≡◌, ◌≤◌, ℕ, ◌++◌, inl, Err, rules, refl, sym, ap, subst, ◌∙◌, arith, IfOk}
-use Rattle.std.specs.Prelude.{flat_map, IfErr}
-use Rattle.std.proofs.lemmas.Result.{IfOk-weaker}
-use Rattle.tp_flush.specs.Known.{Began}
-use Rattle.tp_flush.specs.Flushing.{Flushing, Walked, position}
-use Rattle.tp_book.specs.Covered.{ReceiptValue}
-use Rattle.tp_flush.proofs.Turns.{walked_then}
+use Rattle.std.proofs.Common.{◌≡◌, ◌≤◌, ℕ, ◌++◌, inl, Err, rules, refl, sym, ap, subst, ◌∙◌, arith}
+use Rattle.std.specs.Prelude.{IfOk, flat_map, IfErr}
+use Rattle.tp_run.proofs.Lower.{IfOk-weaker, Began, Flushing, Walked, position, ReceiptValue, walked_then, AreAll, Seat}
 use Rattle.tp_run.specs.declared.fault.RunFault.TheVariants.{FlushFailed, LastFlushFailed}
 use Rattle.tp_run.specs.Failures.{CountsFailures, has_failed}
 use Rattle.tp_run.specs.Faults.{ComesBehind, IsSilent}
@@ -12,8 +8,6 @@ use Rattle.tp_run.specs.Prints.{MayBeSilent}
 use Rattle.tp_run.specs.Ran.{Settled}
 use Rattle.tp_run.specs.Shown.{MayPrint}
 use Rattle.tp_run.proofs.Shown.{done_as, done_says, fault_of, fault_says, may_print, may_print_last, shows_on, walked_reached}
-use Rattle.tp_flush.specs.All.{AreAll}
-use Rattle.tp_work.specs.declared.seat.Seat.{Seat}
 use Rattle.tp_run.proofs.Gathered.{accounted_for, all_settled}
 use Rattle.tp_run.proofs.Failures.{failures_then}
 use Rattle.tp_run.proofs.Faults.{flush_behind, flush_ends, flush_prints, flush_silent, last_said, late_behind, late_behind_of, late_said, late_unfailed, late_unfailed_of}

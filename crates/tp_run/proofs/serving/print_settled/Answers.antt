@@ -1,7 +1,5 @@
 use Rattle.std.proofs.Common.{sym, subst}
-use Rattle.tp_shared.specs.Seals.{Stage}
-use Rattle.tp_flush.specs.Ahead.{IsAheadOf}
-use Rattle.tp_flush.specs.Flushing.{Flushing}
+use Rattle.tp_run.proofs.Lower.{Stage, IsAheadOf, Flushing}
 use Rattle.tp_run.specs.Output.{PrintedOf}
 use Rattle.tp_run.proofs.Shown.{may_show, output_shown}
 use Rattle.tp_run.proofs.serving.print_settled.Goals as goal

@@ -1,8 +1,6 @@
-use Rattle.std.proofs.Common.{◌<◌, ◌++◌, inl, refl, length, sym, ap, subst, ◌∙◌, IfOk}
-use Rattle.std.specs.Prelude.{All}
-use Rattle.tp_work.specs.declared.seat.Seat.{Seat}
-use Rattle.tp_flush.specs.Known.{Began}
-use Rattle.tp_flush.proofs.Turns.{walked_nowhere, walked_then}
+use Rattle.std.proofs.Common.{◌<◌, ◌++◌, inl, refl, length, sym, ap, subst, ◌∙◌}
+use Rattle.std.specs.Prelude.{IfOk, All}
+use Rattle.tp_run.proofs.Lower.{Seat, Began, walked_nowhere, walked_then}
 use Rattle.tp_run.specs.Failures.{is_failure, has_failed}
 use Rattle.tp_run.specs.Input.{input_slips, rest_at}
 use Rattle.tp_run.specs.Ran.{Settled}

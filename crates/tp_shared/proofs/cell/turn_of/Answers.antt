@@ -1,8 +1,6 @@
 use Rattle.std.proofs.Common.{◌≡◌, ◌∙◌, sym, ap, subst, rules, true}
 use Rattle.std.specs.Prelude.{Result, Err, MatchResult}
-use Rattle.tp_node.specs.RunEnd.{RunEnd}
-use Rattle.tp_book.specs.declared.refusal.Refusal.{Refusal}
-use Rattle.tp_turn.specs.Opened.{sent_in, turn_received}
+use Rattle.tp_shared.proofs.Lower.{RunEnd, Refusal, sent_in, turn_received}
 use Rattle.tp_shared.specs.declared.node_turn.NodeTurn.{NodeTurn}
 use Rattle.tp_shared.specs.Holds.{in_hand}
 use Rattle.tp_shared.specs.NodeTurned.{NodeTurned}

@@ -1,7 +1,5 @@
 use Rattle.std.proofs.Common.{◌≡◌, ◌+◌, ◌++◌, ◌∷◌, [], sym, ap, ◌∙◌, take, set, Some, slice_get}
-use Rattle.std.proofs.lemmas.List.{set-set}
-use Rattle.tp_model.specs.Network.{on_line}
-use Rattle.tp_law_network.proofs.Lines.{on_set_same}
+use Rattle.tp_shared.proofs.Lower.{set-set, on_line, on_set_same}
 use Rattle.tp_shared.proofs.Copying.{take_some}
 use Rattle.tp_shared.proofs.copies.copy_line.Goals as goal
 

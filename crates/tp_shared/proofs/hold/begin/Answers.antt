@@ -1,5 +1,4 @@
-use Rattle.tp_turn.specs.Moments.{moment_of}
-use Rattle.tp_turn.proofs.Staying.{opens_in_stay}
+use Rattle.tp_shared.proofs.Lower.{moment_of, opens_in_stay}
 use Rattle.tp_shared.proofs.Holding.{acted_opens, opens_refused}
 use Rattle.tp_shared.proofs.hold.begin.Goals as goal
 

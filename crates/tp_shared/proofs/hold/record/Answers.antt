@@ -1,6 +1,5 @@
-use Rattle.tp_turn.specs.Moments.{moment_of}
+use Rattle.tp_shared.proofs.Lower.{moment_of, records_stay}
 use Rattle.tp_shared.proofs.Closing.{acted_records}
-use Rattle.tp_turn.proofs.Staying.{records_stay}
 use Rattle.tp_shared.proofs.hold.record.Goals as goal
 
 pub returns-clause-acted : goal.returns-clause-acted

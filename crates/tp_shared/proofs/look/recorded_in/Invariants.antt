@@ -1,7 +1,6 @@
 -- The nodes so far were read.
 use Rattle.std.proofs.Common.{◌≡◌, ◌<◌, ℕ, false, length, get_or}
-use Rattle.tp_model.specs.declared.limits.TheConstants.{MAX_NODES}
-use Rattle.tp_book.specs.Needs.{has_recorded_in}
+use Rattle.tp_shared.proofs.Lower.{MAX_NODES, has_recorded_in}
 use Rattle.tp_shared.proofs.look.recorded_in.Given as goal
 
 abbrev pub invariant-loop-node : goal.invariant-loop-node

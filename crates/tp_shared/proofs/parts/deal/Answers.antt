@@ -1,7 +1,6 @@
 use Rattle.std.proofs.Common.{◌≡◌, suc, [], ◌∷◌, ◌++◌, length, refl, sym, ap, subst, ◌∙◌, arith, Some, slice_get, length-append}
-use Rattle.std.proofs.lemmas.Iterator.Adapters.{YieldsList-from_vec}
-use Rattle.std.proofs.lemmas.Iterator.Consumers.{YieldsList-turn}
 use Rattle.std.specs.Prelude.{IsSome, is_some}
+use Rattle.tp_shared.proofs.Lower.{YieldsList-from_vec, YieldsList-turn}
 use Rattle.tp_shared.specs.Agreement.{Agreement}
 use Rattle.tp_shared.specs.Parted.{IsDealt}
 use Rattle.tp_shared.proofs.Dealing.{get_at, dealt_none, dealt_more}

@@ -1,9 +1,6 @@
 use Rattle.std.proofs.Common.{◌≡◌, ℕ, inl, inr, List, ◌++◌, length, map, take, drop, Result, Ok, Err, sym, ap, subst, ◌∙◌, arith}
-use Rattle.std.proofs.Math.Seq.{take-append_seam}
 use Rattle.std.specs.Prelude.{IfErr, OnOk}
-use Rattle.tp_stream_files.specs.Inputs.{GivenInput, given_input}
-use Rattle.tp_stream_files.specs.Notices.{Noticed}
-use Rattle.tp_stream_files.specs.Outputs.{Given, OutputValue, given_of}
+use Rattle.tp_stream.proofs.Lower.{take-append_seam, GivenInput, given_input, Noticed, Given, OutputValue, given_of}
 use Rattle.tp_stream.specs.declared.fault.StreamFault.{StreamFault}
 use Rattle.tp_stream.specs.declared.standing.Standing.{Standing}
 use Rattle.tp_stream.specs.Standing.{AllHaveAccepted, AllMayBegin, IsFirstRefused, IsFirstShort, IsNotBegun, accepted_at, port_standing}

@@ -1,7 +1,6 @@
 use Rattle.std.proofs.Common.{◌≤◌, ◌<◌, inl, inr, length, map, ap, subst, ◌∙◌, arith}
-use Rattle.std.proofs.lemmas.List.{length-map}
+use Rattle.tp_stream.proofs.Lower.{length-map, HasAtLeast, given_input}
 use Rattle.tp_stream.specs.declared.fault.StreamFault.TheVariants.{Port as Absent}
-use Rattle.tp_stream_files.specs.Inputs.{HasAtLeast, given_input}
 use Rattle.tp_stream.specs.Standing.{accepted_at}
 use Rattle.tp_stream.specs.Told.{input_begins}
 use Rattle.tp_stream.proofs.Notices.{noticed_none, said_input, told_all, told_more}

@@ -1,7 +1,6 @@
 -- The inputs so far have all that their ports have accepted, and that was told.
 use Rattle.std.proofs.Common.{map, take}
-use Rattle.tp_stream_files.specs.Inputs.{given_input}
-use Rattle.tp_stream_files.specs.Notices.{Noticed}
+use Rattle.tp_stream.proofs.Lower.{given_input, Noticed}
 use Rattle.tp_stream.specs.Standing.{HaveAcceptedBelow, accepted_at}
 use Rattle.tp_stream.specs.Told.{input_begins}
 use Rattle.tp_stream.proofs.beginning.begin_inputs.Given as goal

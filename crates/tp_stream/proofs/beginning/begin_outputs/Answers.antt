@@ -1,7 +1,6 @@
 use Rattle.std.proofs.Common.{◌≤◌, ◌<◌, inl, inr, length, map, slice_index_or, refl, ap, ◌∙◌, arith}
-use Rattle.std.proofs.lemmas.List.{length-map}
+use Rattle.tp_stream.proofs.Lower.{length-map, given_of}
 use Rattle.tp_stream.specs.declared.fault.StreamFault.TheVariants.{Port as Absent}
-use Rattle.tp_stream_files.specs.Outputs.{given_of}
 use Rattle.tp_stream.proofs.Standings.{all_may_begin, given_at, given_set, may_begin_more, put_out_few}
 use Rattle.tp_stream.specs.Standing.{port_standing}
 use Rattle.tp_stream.specs.Steps.{IsSetOut}

@@ -1,7 +1,6 @@
 -- The outputs so far may begin, are set out and were told; all are given as they were, and the others are as they were.
 use Rattle.std.proofs.Common.{◌≡◌, map, take}
-use Rattle.tp_stream_files.specs.Notices.{Noticed}
-use Rattle.tp_stream_files.specs.Outputs.{given_of}
+use Rattle.tp_stream.proofs.Lower.{Noticed, given_of}
 use Rattle.tp_stream.specs.Standing.{MayBeginBelow, port_standing}
 use Rattle.tp_stream.specs.Steps.{IsSetOut}
 use Rattle.tp_stream.specs.Told.{output_begins}

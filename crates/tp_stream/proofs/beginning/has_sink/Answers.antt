@@ -1,7 +1,6 @@
 use Rattle.std.proofs.Common.{sym, ◌∙◌}
 use Rattle.std.specs.Prelude.{◌==◌}
-use Rattle.std.proofs.lemmas.Bool.{eq-eqb, ne_eqb}
-use Rattle.tp_stream_files.specs.Outputs.{OutputValue}
+use Rattle.tp_stream.proofs.Lower.{eq-eqb, ne_eqb, OutputValue}
 use Rattle.tp_stream.proofs.Tests.{none_more, none_passed, one_passed}
 use Rattle.tp_stream.proofs.beginning.has_sink.Goals as goal
 

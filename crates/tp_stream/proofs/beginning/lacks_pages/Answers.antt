@@ -1,8 +1,6 @@
 use Rattle.std.proofs.Common.{ℕ, ◌||◌, get_or, sym, ap, ◌∙◌}
-use Rattle.std.specs.List.{list_any}
 use Rattle.std.specs.Prelude.{nat_lt}
-use Rattle.std.proofs.lemmas.Bool.{le-ltb, lt-ltb}
-use Rattle.std.proofs.lemmas.List.Folds.{list_any_at, list_any_more}
+use Rattle.tp_stream.proofs.Lower.{list_any, le-ltb, lt-ltb, list_any_at, list_any_more}
 use Rattle.tp_stream.proofs.Tests.{none_passed}
 use Rattle.tp_stream.proofs.beginning.lacks_pages.Goals as goal
 

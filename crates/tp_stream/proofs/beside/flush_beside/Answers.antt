@@ -1,6 +1,5 @@
 use Rattle.std.proofs.Common.{false, refl, sym, subst, ◌∙◌}
-use Rattle.tp_flush.specs.Known.{Began}
-use Rattle.tp_flush.proofs.Turns.{walked_nowhere, walked_then}
+use Rattle.tp_stream.proofs.Lower.{Began, walked_nowhere, walked_then}
 use Rattle.tp_stream.specs.Failures.{fault_failed}
 use Rattle.tp_stream.proofs.Failures.{failed_then, none_failed}
 use Rattle.tp_stream.proofs.beside.flush_beside.Goals as goal

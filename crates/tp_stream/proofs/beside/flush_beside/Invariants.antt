@@ -1,7 +1,6 @@
-use Rattle.std.specs.Prelude.{◌≡◌, false, IfSome, Some}
-use Rattle.tp_model.specs.WriteOrder.{Resting}
-use Rattle.tp_flush.specs.Known.{Began}
-use Rattle.tp_flush.specs.Flushing.{IsSameProcess, Walked}
+use Rattle.std.proofs.Common.{◌≡◌, false, Some}
+use Rattle.std.specs.Prelude.{IfSome}
+use Rattle.tp_stream.proofs.Lower.{Resting, Began, IsSameProcess, Walked}
 use Rattle.tp_stream.specs.Failures.{FailedWhere}
 use Rattle.tp_stream.proofs.beside.flush_beside.Given as goal
 

@@ -1,7 +1,6 @@
 -- Nothing is left of the inputs so far that their ports may take.
 use Rattle.std.proofs.Common.{◌≡◌, true, take}
-use Rattle.std.specs.List.{list_all}
-use Rattle.tp_stream_files.specs.Inputs.{is_over}
+use Rattle.tp_stream.proofs.Lower.{list_all, is_over}
 use Rattle.tp_stream.proofs.endings.are_over.Given as goal
 
 abbrev pub invariant-loop-input : goal.invariant-loop-input

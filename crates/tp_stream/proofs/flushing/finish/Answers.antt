@@ -1,7 +1,6 @@
 use Rattle.std.proofs.Common.{length, rules, Err, sym, subst, ◌≡◌, ◌≤◌}
 use Rattle.std.specs.Prelude.{IfOk}
-use Rattle.tp_flush.specs.Known.{Began}
-use Rattle.tp_flush.specs.Flushing.{Flushing, IsSameProcess, Walked}
+use Rattle.tp_stream.proofs.Lower.{Began, Flushing, IsSameProcess, Walked}
 use Rattle.tp_stream.specs.Failures.{FailedWhere, answer_failed}
 use Rattle.tp_stream.specs.Put.{EndsPut}
 use Rattle.tp_stream.proofs.Failures.{failed_still}

@@ -1,9 +1,5 @@
 use Rattle.std.proofs.Common.{◌≡◌, ◌≤◌, true, sym, ap, subst, ◌∙◌, arith}
-use Rattle.tp_book.specs.Book.{BookValue, next_in_book}
-use Rattle.tp_book.specs.Host.{port_in}
-use Rattle.tp_shared.specs.Seals.{Stage}
-use Rattle.tp_flush.specs.Ahead.{IsAheadOf}
-use Rattle.tp_flush.specs.Flushing.{Flushing}
+use Rattle.tp_stream.proofs.Lower.{BookValue, next_in_book, port_in, Stage, IsAheadOf, Flushing}
 use Rattle.tp_stream.specs.Put.{are_put}
 use Rattle.tp_stream.proofs.Puts.{all_in_journal, ends_put}
 use Rattle.tp_stream.proofs.flushing.last_under.Goals as goal

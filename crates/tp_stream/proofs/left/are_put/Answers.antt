@@ -1,5 +1,4 @@
-use Rattle.tp_book.specs.Host.{port_in}
-use Rattle.tp_stream_files.specs.Outputs.{OutputValue}
+use Rattle.tp_stream.proofs.Lower.{port_in, OutputValue}
 use Rattle.tp_stream.specs.Put.{is_put}
 use Rattle.tp_stream.proofs.Tests.{all_more, all_passed}
 use Rattle.tp_stream.proofs.left.are_put.Goals as goal

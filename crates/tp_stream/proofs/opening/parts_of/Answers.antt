@@ -1,9 +1,5 @@
 use Rattle.std.proofs.Common.{◌≡◌, length, map, inr, Some, sym, ap, subst, ◌∙◌}
-use Rattle.tp_book.specs.Counted.{AreCounted}
-use Rattle.tp_book.specs.Book.{BookValue, next_in_book}
-use Rattle.tp_flush.proofs.Made.{kept_is, stands}
-use Rattle.tp_stream_files.specs.Inputs.{given_input}
-use Rattle.tp_stream_files.specs.Outputs.{given_of}
+use Rattle.tp_stream.proofs.Lower.{AreCounted, BookValue, next_in_book, kept_is, stands, given_input, given_of}
 use Rattle.tp_stream.specs.Standing.{AllHaveAccepted, AllMayBegin, accepted_at, accepted_opened, port_standing, stands_opened}
 use Rattle.tp_stream.specs.Put.{EachWith}
 use Rattle.tp_stream.specs.Steps.{IsSetOut}

@@ -1,6 +1,5 @@
 use Rattle.std.proofs.Common.{◌≡◌, ◌≤◌, ap, subst, ◌∙◌, arith}
-use Rattle.tp_book.specs.Host.{port_in, shown_from}
-use Rattle.tp_stream_files.specs.Outputs.{WasPutSafely}
+use Rattle.tp_stream.proofs.Lower.{port_in, shown_from, WasPutSafely}
 use Rattle.tp_stream.proofs.Puts.{puts_grew}
 use Rattle.tp_stream.proofs.output.put_shown.Goals as goal
 

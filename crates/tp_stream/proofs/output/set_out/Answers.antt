@@ -1,8 +1,5 @@
 use Rattle.std.proofs.Common.{◌≡◌, refl, ap, subst, ◌∙◌}
-use Rattle.std.specs.Option.{unwrap_or}
-use Rattle.tp_stream_files.specs.Held.{Reaches}
-use Rattle.tp_stream_files.specs.Outputs.{given_of}
-use Rattle.tp_stream_files.proofs.StreamEndsSinks.{reaches_less}
+use Rattle.tp_stream.proofs.Lower.{unwrap_or, Reaches, given_of, reaches_less}
 use Rattle.tp_stream.specs.Standing.{IsReadUpTo, from_of}
 use Rattle.tp_stream.proofs.output.set_out.Goals as goal
 

@@ -1,4 +1,4 @@
--- What is left of the book, what was put of the outputs so far, and what room there is for the others, which are as they were.
+-- The book with the confirms so far, what was put of the outputs so far, and the room for the others, which are as they were.
 use Rattle.std.proofs.Common.{◌≡◌, ◌-◌, true, length}
 use Rattle.tp_area.specs.declared.journal.JournalRoom.{JournalRoom}
 use Rattle.tp_stream.specs.Rooms.{UnreservedBook, has_room_for}

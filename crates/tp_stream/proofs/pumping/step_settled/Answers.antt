@@ -1,9 +1,5 @@
 use Rattle.std.proofs.Common.{◌≡◌, ◌≤◌, true, length, sym, ap, subst, ◌∙◌, arith}
-use Rattle.tp_book.specs.Book.{next_in_book}
-use Rattle.tp_shared.specs.Seals.{Stage}
-use Rattle.tp_flush.specs.Ahead.{IsAheadOf}
-use Rattle.tp_flush.specs.Flushing.{Flushing}
-use Rattle.tp_flush.proofs.Turns.{walked_nowhere}
+use Rattle.tp_stream.proofs.Lower.{next_in_book, Stage, IsAheadOf, Flushing, walked_nowhere}
 use Rattle.tp_stream.specs.Rooms.{UnreservedBook, has_room_for}
 use Rattle.tp_stream.proofs.Puts.{book_stands}
 use Rattle.tp_stream.proofs.Stepping.{stepped_under}

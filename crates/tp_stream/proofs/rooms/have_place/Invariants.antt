@@ -1,8 +1,7 @@
 -- The ports so far have room for one more byte.
 use Rattle.std.proofs.Common.{◌<◌, ℕ, length}
 use Rattle.std.specs.Prelude.{IfSome}
-use Rattle.tp_model.specs.declared.limits.TheConstants.{MAX_HELD}
-use Rattle.tp_book.specs.Book.{outputs_of}
+use Rattle.tp_stream.proofs.Lower.{MAX_HELD, outputs_of}
 use Rattle.tp_stream.proofs.rooms.have_place.Given as goal
 
 abbrev pub invariant-loop-port : goal.invariant-loop-port

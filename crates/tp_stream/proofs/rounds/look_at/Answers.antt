@@ -1,6 +1,5 @@
 use Rattle.std.proofs.Common.{◌≡◌, ℕ, Bool, false, sym, ap, ◌∙◌}
-use Rattle.tp_book.specs.Needs.{has_recorded_in}
-use Rattle.tp_book.specs.Book.{BookValue, count_of_nodes}
+use Rattle.tp_stream.proofs.Lower.{has_recorded_in, BookValue, count_of_nodes}
 use Rattle.tp_stream.proofs.rounds.look_at.Goals as goal
 
 -- the host hasn't recorded in the book that was seen

@@ -1,8 +1,6 @@
 use Rattle.std.proofs.Common.{◌≡◌, ℕ, ◌<◌, true, length, Result, Ok, Err, arith}
 use Rattle.std.specs.Prelude.{IfOk}
-use Rattle.tp_model.specs.NodeState.{NodeState}
-use Rattle.tp_model.specs.Network.{Network}
-use Rattle.tp_book.specs.declared.refusal.Refusal.{Refusal}
+use Rattle.tp_stream.proofs.Lower.{NodeState, Network, Refusal}
 use Rattle.tp_stream.specs.declared.turns.Did.{Did}
 use Rattle.tp_stream.specs.Quiet.{HadNothing, NodeRests}
 use Rattle.tp_stream.proofs.rounds.make_turn.Goals as goal

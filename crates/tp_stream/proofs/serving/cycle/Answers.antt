@@ -1,10 +1,9 @@
 use Rattle.std.proofs.Common.{rules, ◌≡◌, Err, length, refl, sym, subst}
-use Rattle.tp_flush.specs.Known.{Began}
-use Rattle.tp_flush.specs.Flushing.{Flushing}
-use Rattle.tp_flush.proofs.Turns.{walked_nowhere}
+use Rattle.tp_stream.proofs.Lower.{Began, Flushing, walked_nowhere}
 use Rattle.tp_stream.specs.Failures.{answer_failed, fault_failed}
 use Rattle.tp_stream.specs.Served.{ServedOn}
-use Rattle.tp_stream.proofs.Failures.{between_begun, between_unfailed, failed_still, flush_begun}
+use Rattle.tp_stream.proofs.FailedEnds.{flush_names_none, names_none}
+use Rattle.tp_stream.proofs.Failures.{between_begun, between_unfailed, failed_still, flush_begun, if_err}
 use Rattle.tp_stream.proofs.Notices.{later_none, later_progress}
 use Rattle.tp_stream.proofs.Served.{fault_answered, served_still}
 use Rattle.tp_stream.proofs.Stepping.{all_since}
@@ -61,3 +60,9 @@ returns-in_err-flush-clause-answer g c =
 
 pub returns-in_err-flush-clause-told : goal.returns-in_err-flush-clause-told
 returns-in_err-flush-clause-told g c = later_none (length g.J.Naming.start.nodes) (g.L.Listener.told c.args.listener.now)
+
+pub returns-in_err-flush-clause-ends : goal.returns-in_err-flush-clause-ends
+returns-in_err-flush-clause-ends g c =
+    let fault = c.in_err-flush.field-0.0 in
+    let is : c.from_residual.result ≡ Err fault = search rules in
+    if_err c.from_residual.result fault _ is (names_none _ _ fault (flush_names_none fault c.in_err-flush.ensures.begun))

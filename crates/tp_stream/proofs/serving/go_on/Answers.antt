@@ -1,8 +1,7 @@
-use Rattle.std.proofs.Common.{rules, ◌≡◌, Err, ap, ◌∙◌}
-use Rattle.std.specs.List.{list_all}
-use Rattle.tp_stream_files.specs.Inputs.{is_over}
+use Rattle.std.proofs.Common.{rules, length, drop, arith, ◌≡◌, Err, ap, ◌∙◌}
+use Rattle.tp_stream.proofs.Lower.{list_all, is_over}
 use Rattle.tp_stream.specs.Streamed.{CameBetween}
-use Rattle.tp_stream.proofs.FailedEnds.{turns_between}
+use Rattle.tp_stream.proofs.FailedEnds.{names_none, turns_between, turns_name_none, with_inputs}
 use Rattle.tp_stream.proofs.Failures.{if_err}
 use Rattle.tp_stream.proofs.Quiets.{ended_why, leaves_no_input}
 use Rattle.tp_stream.proofs.serving.go_on.Goals as goal
@@ -24,3 +23,19 @@ returns-in_err-settle-clause-begun g c =
     let fault = c.in_err-settle.field-0.0 in
     let is : c.from_residual.result ≡ Err fault = search rules in
     if_err c.from_residual.result fault CameBetween is (turns_between fault c.in_err-settle.ensures.begun)
+
+pub returns-in_err-settle-clause-ends : goal.returns-in_err-settle-clause-ends
+returns-in_err-settle-clause-ends g c =
+    let fault = c.in_err-settle.field-0.0 in
+    let is : c.from_residual.result ≡ Err fault = search rules in
+    if_err c.from_residual.result fault _ is (names_none _ _ fault (turns_name_none fault c.in_err-settle.ensures.begun))
+
+pub returns-in_err-rest_or_turn-clause-ends : goal.returns-in_err-rest_or_turn-clause-ends
+returns-in_err-rest_or_turn-clause-ends g c =
+    let fault = c.in_err-rest_or_turn.field-0.0 in
+    let is : c.from_residual-in_err-rest_or_turn.result ≡ Err fault = search rules in
+    let outputs = c.pump.new.streams.outputs.items in
+    let inputs = c.rest_or_turn.new.inputs in
+    let many : length inputs ≡ c.pump.new.streams.inputs.len = omega (arith, c.rest_or_turn.auto.inputs, c.deref_mut.ensures.len) in
+    with_inputs (λ i. i.port) c.from_residual-in_err-rest_or_turn.result c.pump.new.streams.inputs.len outputs inputs (drop (length inputs) c.pump.new.streams.inputs.items) many
+    (if_err c.from_residual-in_err-rest_or_turn.result fault _ is (c.in_err-rest_or_turn.ensures.ends outputs))

@@ -16,6 +16,7 @@ loop-init g c = record {
       (λ rests. none_failed c.args.flusher.now rests);
   answer = record { why = tt; inputs = tt; begun = tt };
   told = later_none (length g.J.Naming.start.nodes) (g.L.Listener.told c.args.listener.now);
+  ends = tt;
   looks = none_looked c.args.ground.pace.task (g.P.Stop.answers c.args.stop.now);
   queue = c.requires.queue;
   rested = c.requires.rested;
@@ -39,6 +40,7 @@ loop-preserved g c =
           looks_then g.J.Naming.start c.args.ground.pace.task (g.P.Stop.answers c.args.stop.now)
           (g.P.Stop.answers c.loop.stop) (g.P.Stop.answers c.lap-last.new.stop) c.loop.last c.lap-last.result going c.loop.invariant.looks c.lap-last.ensures.answer.why
           c.lap-last.ensures.looks;
+      ends = c.lap-last.ensures.ends;
       queue = c.lap-last.ensures.queue;
       rested = c.lap-last.ensures.rested;
     }

@@ -1,6 +1,7 @@
-use Rattle.std.specs.List.{list_all}
-use Rattle.std.specs.Prelude.{◌≡◌, IfOk, IfSome, OnOk, Some, length}
-use Rattle.tp_stream_files.specs.Inputs.{is_over}
+use Rattle.std.proofs.Common.{map, ◌≡◌, Some, length}
+use Rattle.std.specs.Prelude.{IfErr, IfOk, IfSome, OnOk}
+use Rattle.tp_stream.proofs.Lower.{list_all, is_over}
+use Rattle.tp_stream.specs.FailedEnds.{NamesEnd}
 use Rattle.tp_stream.specs.Failures.{answer_failed}
 use Rattle.tp_stream.specs.Looks.{HaveLooked}
 use Rattle.tp_stream.specs.Quiet.{HaveRested}
@@ -15,6 +16,7 @@ invariant-loop g l = record {
   answer : ServedAnswer g.J.Naming.start l.ground.pace.task (list_all (λ i. is_over i.ended i.is_blocked) l.streams.inputs.items) l.last;
   told : ToldLater (length g.J.Naming.start.nodes) (g.L.Listener.told l.fn.listener) (g.L.Listener.told l.listener);
   looks : IfOk l.last (HaveLooked l.ground.pace.task (g.P.Stop.answers l.fn.stop) (g.P.Stop.answers l.stop));
+  ends : IfErr l.last (NamesEnd l.streams.outputs.items (map (λ i. i.port) l.streams.inputs.items));
   queue : IfSome l.seat (λ seat. seat.hand.of ≡ Some l.ground.net.now.queue);
   rested : OnOk l.last (HaveRested g.J.Naming.start l.going.turns.whose l.going.turns.idle);
 }

@@ -3,6 +3,7 @@ use Rattle.tp_flush.specs.Known.{Began}
 use Rattle.tp_stream.specs.Failures.{answer_failed, fault_failed}
 use Rattle.tp_stream.specs.Put.{EndsPut}
 use Rattle.tp_stream.specs.Served.{ServedOn}
+use Rattle.tp_stream.proofs.FailedEnds.{flush_names_none, names_none}
 use Rattle.tp_stream.proofs.Failures.{flush_begun}
 use Rattle.tp_stream.proofs.Notices.{later_then}
 use Rattle.tp_stream.proofs.Served.{served_until}
@@ -45,3 +46,6 @@ pub returns-in-Ok-clause-put : goal.returns-in-Ok-clause-put
 returns-in-Ok-clause-put g c k began =
     subst (λ l. EndsPut g.J.Naming.formatted c.finish.new.flusher.world.journal c.in-Ok-Some.why l) c.deref.ensures.value
     (c.in-Ok.ensures.put k (subst (Began g.J.Naming.formatted g.J.Naming.before) (sym c.lead-going.ensures.served.process.opened) began))
+
+pub returns-clause-ends : goal.returns-clause-ends
+returns-clause-ends g c = names_none _ _ c.in-Err-finish.fault (flush_names_none c.in-Err-finish.fault c.in-Err-finish.ensures.begun)

@@ -1,20 +1,15 @@
 use Rattle.std.proofs.Common.{◌≡◌, ◌++◌, inl, inr, length, map, Err, refl, sym, ap, subst, ◌∙◌}
 use Rattle.std.specs.Prelude.{IfOk}
-use Rattle.tp_model.specs.Disk.{Moment}
-use Rattle.tp_model.specs.Topology.{node_count}
-use Rattle.tp_flush.specs.Known.{Began}
-use Rattle.tp_model.specs.Opening.{Opened, next_of}
-use Rattle.tp_stream_files.specs.declared.ending.Ended.{Ended}
+use Rattle.tp_stream.proofs.Lower.{Moment, node_count, Began, Opened, next_of, Ended, given_input, given_of}
 use Rattle.tp_stream.specs.declared.fault.StreamFault.TheVariants.{Opening}
 use Rattle.tp_stream.specs.Failures.{answer_failed, calls_failed, fault_failed}
 use Rattle.tp_stream.specs.Fitting.{Fits, SaysFit, SaysUnfit}
 use Rattle.tp_stream.specs.Quiet.{LeavesNothingToDo}
 use Rattle.tp_stream.specs.Put.{ServedInto, StreamedInto}
 use Rattle.tp_stream.specs.Streamed.{Streamed}
-use Rattle.tp_stream_files.specs.Inputs.{given_input}
-use Rattle.tp_stream_files.specs.Outputs.{given_of}
 use Rattle.tp_stream.specs.Standing.{AllHaveAccepted, AllMayBegin, IsFirstRefused, IsFirstShort, OfInput, OfOutput, accepted_opened, stands_opened}
 use Rattle.tp_stream.specs.Told.{ToldFirst, ToldLater, input_begins, output_begins}
+use Rattle.tp_stream.proofs.FailedEnds.{names_none, neither_names_none}
 use Rattle.tp_stream.proofs.Failures.{begun_answers, neither_answers, neither_failed, not_begun_neither, opening_counted, uncounted, unfit_neither}
 use Rattle.tp_stream.proofs.Fitted.{begun_fits, not_begun_fits, opened_ports, unfit}
 use Rattle.tp_stream.proofs.Notices.{first_later}
@@ -234,3 +229,17 @@ pub returns-clause-failures : goal.returns-clause-failures
 returns-clause-failures g c =
     subst (λ n. g.D.Disk.failures_of c.stream_parts.result.0 ≡ calls_failed (answer_failed c.stream_parts.result.1) n)
     (ap g.D.Disk.failures_of c.store-store.ensures.disk ∙ c.in-Ok.ensures.counts.failures) c.stream_parts.ensures.failures
+
+-- ## Which end it names
+
+pub returns-in-Some-clause-ends : goal.returns-in-Some-clause-ends
+returns-in-Some-clause-ends g c =
+    let fault = c.in-Some.fault in
+    let outputs = c.args.streams.now.outputs.items in
+    let inputs = map (λ i. i.port) c.args.streams.now.inputs.items in
+    names_none _ _ fault (neither_names_none fault (unfit_neither c.args.task c.topology.result.now outputs inputs fault c.in-Some.ensures.unfit))
+
+pub returns-in-Err-parts_of-clause-ends : goal.returns-in-Err-parts_of-clause-ends
+returns-in-Err-parts_of-clause-ends g c =
+    let fault = c.in-Err-parts_of.fault in
+    names_none _ _ fault (neither_names_none fault (not_begun_neither _ _ _ _ _ fault c.in-Err-parts_of.ensures.refused))

@@ -1,11 +1,6 @@
 use Rattle.std.proofs.Common.{◌≡◌, Ok, Err, Some, false, refl, sym, ap, subst, ◌∙◌}
-use Rattle.tp_model.specs.NodeState.{NodeState}
 use Rattle.std.specs.Prelude.{IfOk}
-use Rattle.tp_model.specs.DiskHistory.{State}
-use Rattle.tp_model.specs.Opening.{held_of, next_of, verdict}
-use Rattle.tp_model.specs.Runs.{World, reopened}
-use Rattle.tp_model.specs.Topology.{node_count}
-use Rattle.tp_flush.specs.Known.{Began}
+use Rattle.tp_stream.proofs.Lower.{NodeState, State, held_of, next_of, verdict, World, reopened, node_count, Began}
 use Rattle.tp_stream.specs.Failures.{answer_failed, calls_failed}
 use Rattle.tp_stream.specs.Looks.{HaveLooked}
 use Rattle.tp_stream.specs.Put.{ServedInto}

@@ -1,7 +1,5 @@
 use Rattle.std.proofs.Common.{◌+◌, ◌*◌, Some, sym, ap, ◌∙◌, arith}
-use Rattle.std.proofs.lemmas.List.{take_rest}
-use Rattle.tp_model.specs.EndBytes.{out_end_at, in_end_at}
-use Rattle.tp_model.specs.declared.limits.TheConstants.{IMAGE_HEAD_BYTES}
+use Rattle.tp_tests_machine.proofs.Lower.{take_rest, out_end_at, in_end_at, IMAGE_HEAD_BYTES}
 use Rattle.tp_tests_machine.proofs.Taking.{ack_can_come, data_can_come}
 use Rattle.tp_tests_machine.proofs.arrival.can_take.Goals as goal
 

@@ -1,7 +1,6 @@
 -- if the entries from here on may be appended, all may
 use Rattle.std.proofs.Common.{◌≡◌, true, drop}
-use Rattle.std.specs.List.{AllByRecursion}
-use Rattle.tp_model.specs.EntryBytes.{is_in_range, is_of}
+use Rattle.tp_tests_opening.proofs.Lower.{AllByRecursion, is_in_range, is_of}
 use Rattle.tp_tests_opening.proofs.appendable.are_appendable.Given as goal
 
 abbrev pub invariant-loop-i : goal.invariant-loop-i

@@ -1,8 +1,6 @@
 -- if the entries from here on may be there, all may
 use Rattle.std.proofs.Common.{◌+◌, ◌≤◌, drop, map}
-use Rattle.std.specs.List.{AllByRecursion}
-use Rattle.tp_model.specs.EntryBytes.{IsSpelt}
-use Rattle.tp_model.specs.Numbers.{AreNumbered}
+use Rattle.tp_tests_opening.proofs.Lower.{AllByRecursion, IsSpelt, AreNumbered}
 use Rattle.tp_tests_opening.proofs.copies.are_behind.Given as goal
 
 abbrev pub invariant-loop-i : goal.invariant-loop-i

@@ -1,7 +1,6 @@
 -- the other area stays closed, and the pages that are left are in the rest
 use Rattle.std.proofs.Common.{◌≡◌, ◌-◌, ◌*◌, length}
-use Rattle.tp_model.specs.declared.limits.TheConstants.{PAGE_BYTES}
-use Rattle.tp_area.specs.Other.{OtherIsClosed}
+use Rattle.tp_tests_opening.proofs.Lower.{PAGE_BYTES, OtherIsClosed}
 use Rattle.tp_tests_opening.proofs.copies.put_image.Given as goal
 
 abbrev pub invariant-loop-page : goal.invariant-loop-page

@@ -1,7 +1,6 @@
 use Rattle.std.proofs.Common.{◌≡◌, ◌∙◌, ap, subst, slice_index_or}
 use Rattle.std.specs.Prelude.{IfOk}
-use Rattle.tp_law_network.specs.Readable.{bare}
-use Rattle.tp_pieces.specs.Whole.{EndsAgree, IsStop}
+use Rattle.tp_tests_opening.proofs.Lower.{bare, EndsAgree, IsStop}
 use Rattle.tp_tests_opening.specs.Member.{member_network}
 use Rattle.tp_tests_opening.specs.Pair.{pair_whole, whole_pieces}
 use Rattle.tp_tests_opening.proofs.Members.{any, ok_map, these_are_whole, these_end}

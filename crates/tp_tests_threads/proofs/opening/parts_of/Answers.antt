@@ -1,8 +1,5 @@
 use Rattle.std.proofs.Common.{Some, sym, ap, ◌∙◌}
-use Rattle.tp_book.specs.Book.{BookValue, next_in_book}
-use Rattle.tp_book.specs.Opened.{opened_book}
-use Rattle.tp_ready.specs.Seen.{unrisen}
-use Rattle.tp_flush.proofs.Made.{kept_is, stands}
+use Rattle.tp_tests_threads.proofs.Lower.{BookValue, next_in_book, opened_book, unrisen, kept_is, stands}
 use Rattle.tp_tests_threads.proofs.opening.parts_of.Goals as goal
 
 pub returns-clause-parts : goal.returns-clause-parts

@@ -1,7 +1,5 @@
 use Rattle.std.proofs.Common.{[]}
-use Rattle.tp_model.specs.Runs.{fresh}
-use Rattle.tp_model.specs.WriteOrder.{Resting}
-use Rattle.tp_shared.specs.Parted.{name_of}
+use Rattle.tp_tests_turns.proofs.Lower.{fresh, Resting, name_of}
 use Rattle.tp_tests_turns.proofs.checkpoint.checkpoint_of_pair.Given as goal
 
 -- No history is told of: nothing here speaks of crashes.

@@ -1,6 +1,5 @@
 use Rattle.std.proofs.Common.{arith}
-use Rattle.tp_node.proofs.Answered.{why_most}
-use Rattle.tp_turn.proofs.Ahead.{ran_ahead}
+use Rattle.tp_tests_turns.proofs.Lower.{why_most, ran_ahead}
 use Rattle.tp_tests_turns.proofs.Netting.{leaves_added, leaves_opened, opened_reserved}
 use Rattle.tp_tests_turns.proofs.deeds.open.Goals as goal
 

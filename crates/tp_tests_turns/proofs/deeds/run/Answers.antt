@@ -1,10 +1,5 @@
 use Rattle.std.proofs.Common.{◌≡◌, ◌≤◌, true, ap, ◌∙◌, Some, slice_get}
-use Rattle.tp_law_machine.proofs.Partial.{slice_get-set_same}
-use Rattle.tp_model.specs.Network.{steps}
-use Rattle.tp_model.specs.Node.{t414}
-use Rattle.tp_node.proofs.Answered.{why_most}
-use Rattle.tp_book.specs.Book.{BookValue}
-use Rattle.tp_book.specs.Acts.{run_acts}
+use Rattle.tp_tests_turns.proofs.Lower.{slice_get-set_same, steps, t414, why_most, BookValue, run_acts}
 use Rattle.tp_tests_turns.proofs.Netting.{committed_free, leaves_run, ran_on}
 use Rattle.tp_tests_turns.proofs.deeds.run.Goals as goal
 

@@ -1,10 +1,5 @@
 use Rattle.std.proofs.Common.{sym, ap, ◌∙◌, arith, length, Some}
-use Rattle.std.specs.Option.{option_map}
-use Rattle.std.proofs.lemmas.Option.{slice_get_within}
-use Rattle.tp_model.specs.Network.{line_of}
-use Rattle.tp_book.specs.Book.{agreed}
-use Rattle.tp_book.proofs.Commit.{length-agreed}
-use Rattle.tp_turn.proofs.Possible.{comes_in}
+use Rattle.tp_tests_turns.proofs.Lower.{option_map, slice_get_within, line_of, agreed, length-agreed, comes_in}
 use Rattle.tp_tests_turns.proofs.deeds.take.Goals as goal
 
 pub receiver-requires : goal.receiver-requires

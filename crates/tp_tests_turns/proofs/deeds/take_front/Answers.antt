@@ -1,13 +1,5 @@
 use Rattle.std.proofs.Common.{subst}
-use Rattle.tp_model.specs.Network.{on_line}
-use Rattle.tp_model.specs.Node.{on_link}
-use Rattle.tp_book.specs.Calls.{front_of}
-use Rattle.tp_law_machine.specs.NodeOfBytes.{CarriesByte}
-use Rattle.tp_law_machine.proofs.Nodes.{carries, node_took}
-use Rattle.tp_node.proofs.Answered.{takes_ok}
-use Rattle.tp_turn.proofs.Possible.{can_take}
-use Rattle.tp_turn.proofs.Leads.{takeable_front, ready_some, has_taken}
-use Rattle.tp_turn.proofs.Fronted.{taken_done, taken_is}
+use Rattle.tp_tests_turns.proofs.Lower.{on_line, on_link, front_of, CarriesByte, carries, node_took, takes_ok, can_take, takeable_front, ready_some, has_taken, taken_done, taken_is}
 use Rattle.tp_tests_turns.proofs.Netting.{home_added, leaves_added}
 use Rattle.tp_tests_turns.proofs.deeds.take_front.Goals as goal
 

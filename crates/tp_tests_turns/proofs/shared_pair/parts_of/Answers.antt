@@ -1,7 +1,5 @@
 use Rattle.std.proofs.Common.{sym, ap, subst, ◌∙◌, arith, None, slice_get}
-use Rattle.tp_model.specs.Image.{node_at}
-use Rattle.tp_law_machine.proofs.Numbers.{are_bytes}
-use Rattle.tp_book.specs.Start.{IsFresh, first_book}
+use Rattle.tp_tests_turns.proofs.Lower.{node_at, are_bytes, IsFresh, first_book}
 use Rattle.tp_tests_turns.proofs.SharedPair.{pair_fresh, pairs_agree}
 use Rattle.tp_tests_turns.proofs.shared_pair.parts_of.Goals as goal
 

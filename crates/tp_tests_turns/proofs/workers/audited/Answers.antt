@@ -1,6 +1,5 @@
 use Rattle.std.proofs.Common.{◌≡◌, ℕ, length, sym, subst}
-use Rattle.tp_shared.specs.Seals.{Stage}
-use Rattle.tp_token.specs.Sound.{shown, item_of}
+use Rattle.tp_tests_turns.proofs.Lower.{Stage, shown, item_of}
 use Rattle.tp_tests_turns.proofs.workers.audited.Goals as goal
 
 pub returns-clause-each : goal.returns-clause-each

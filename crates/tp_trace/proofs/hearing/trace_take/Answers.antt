@@ -1,11 +1,5 @@
 use Rattle.std.proofs.Common.{◌≡◌, ◌∙◌, ℕ, false, List, Option, Some, None, ap, sym, refl, is_some, slice_get}
-use Rattle.std.proofs.lemmas.Bool.{true≢false}
-use Rattle.std.specs.Option.{option_map}
-use Rattle.tp_law_machine.proofs.Nodes.{carries, node_took}
-use Rattle.tp_model.specs.Node.{on_link, took}
-use Rattle.tp_model.specs.NodeState.{NodeState}
-use Rattle.tp_model.specs.declared.link.Token.{Token}
-use Rattle.tp_node.proofs.Answered.{lacking_frozen, takes_err, takes_ok}
+use Rattle.tp_trace.proofs.Lower.{true≢false, option_map, carries, node_took, on_link, took, NodeState, Token, lacking_frozen, takes_err, takes_ok}
 use Rattle.tp_trace.specs.Steps.{leaving}
 use Rattle.tp_trace.proofs.hearing.trace_take.Goals as goal
 

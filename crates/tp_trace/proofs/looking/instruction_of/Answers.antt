@@ -1,10 +1,5 @@
 use Rattle.std.proofs.Common.{◌≡◌, ◌∙◌, ◌+◌, drop, sym, ap, arith}
-use Rattle.std.proofs.lemmas.Option.{slice_get_within}
-use Rattle.tp_cpu.proofs.Ahead.{through_byte, no_bytes_from, next_offset}
-use Rattle.tp_cpu.specs.Decoding.{reads_on}
-use Rattle.tp_model.specs.Memory.{offset}
-use Rattle.tp_model.specs.Word.{wrap}
-use Rattle.tp_node.proofs.Images.{has_pages}
+use Rattle.tp_trace.proofs.Lower.{slice_get_within, through_byte, no_bytes_from, next_offset, reads_on, offset, wrap, has_pages}
 use Rattle.tp_trace.proofs.looking.instruction_of.Goals as goal
 
 pub returns-in-Some-feed : goal.returns-in-Some-feed

@@ -1,8 +1,6 @@
 -- what is read so far is read on in the bytes that are left
 use Rattle.std.proofs.Common.{◌≡◌, drop, ◌-◌}
-use Rattle.tp_cpu.specs.Decoding.{reads_on}
-use Rattle.tp_model.specs.Coding.{decoded}
-use Rattle.tp_model.specs.Memory.{offset}
+use Rattle.tp_trace.proofs.Lower.{reads_on, decoded, offset}
 use Rattle.tp_trace.proofs.looking.instruction_of.Given as goal
 
 abbrev pub invariant-loop-byte : goal.invariant-loop-byte

@@ -1,6 +1,5 @@
 use Rattle.std.proofs.Common.{◌≡◌, ◌∙◌, Some, true, length, take, drop, ap, arith, nat_lt}
-use Rattle.std.proofs.lemmas.Bool.{lt-ltb}
-use Rattle.std.specs.Int.{from_le_bytes, w32}
+use Rattle.tp_trace.proofs.Lower.{lt-ltb, from_le_bytes, w32}
 use Rattle.tp_trace.proofs.Heads.{page_word}
 use Rattle.tp_trace.proofs.looking.kept_of.Goals as goal
 

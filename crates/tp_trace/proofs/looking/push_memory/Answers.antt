@@ -1,10 +1,5 @@
 use Rattle.std.proofs.Common.{◌≡◌, ◌∙◌, ◌+◌, ap, arith, drop, length, sym, take}
-use Rattle.std.proofs.lemmas.List.{length_push}
-use Rattle.std.proofs.lemmas.Option.{slice_get_within}
-use Rattle.tp_cpu.proofs.Ahead.{next_offset}
-use Rattle.tp_model.specs.Memory.{offset}
-use Rattle.tp_model.specs.Word.{wrap}
-use Rattle.tp_node.proofs.Images.{has_pages}
+use Rattle.tp_trace.proofs.Lower.{length_push, slice_get_within, next_offset, offset, wrap, has_pages}
 use Rattle.tp_trace.proofs.Bytes.{next_place, one_more}
 use Rattle.tp_trace.proofs.looking.push_memory.Goals as goal
 

@@ -1,7 +1,5 @@
-use Rattle.std.proofs.Common.{rules, ◌≡◌, ◌∙◌, ◌∷◌, Some, ap, map, option_copied, option_map, set, sym}
-use Rattle.std.proofs.lemmas.List.{map-set}
-use Rattle.tp_model.specs.NodeState.{NodeState}
-use Rattle.tp_model.specs.declared.link.Token.TheVariants.{Data}
+use Rattle.std.proofs.Common.{rules, ◌≡◌, ◌∙◌, ◌∷◌, Some, ap, map, option_copied, set, sym, option_map}
+use Rattle.tp_trace.proofs.Lower.{map-set, NodeState, Data}
 use Rattle.tp_trace.specs.Others.{Attended, attended, data_at}
 use Rattle.tp_trace.specs.Steps.{heard}
 use Rattle.tp_trace.specs.declared.hearing.Heard.{Heard}

@@ -1,9 +1,5 @@
 use Rattle.std.proofs.Common.{◌≡◌, ◌∙◌, None, subst, sym, nat_eq}
-use Rattle.tp_law_machine.proofs.Nodes.{node_steps}
-use Rattle.tp_model.specs.NodeWrites.{node_ranges}
-use Rattle.tp_model.specs.SharedPages.{LacksFrames}
-use Rattle.tp_node.proofs.Answered.{lacking_frozen}
-use Rattle.tp_node.specs.NodeContents.{memory_kept}
+use Rattle.tp_trace.proofs.Lower.{node_steps, node_ranges, LacksFrames, lacking_frozen, memory_kept}
 use Rattle.tp_trace.proofs.OneStep.{one_step, step_sends}
 use Rattle.tp_trace.specs.Steps.{Stepped}
 use Rattle.tp_trace.proofs.stepping.step.Goals as goal

@@ -1,14 +1,5 @@
 use Rattle.std.proofs.Common.{◌≡◌, true, subst, arith, rules}
-use Rattle.std.proofs.lemmas.Option.{slice_get_within}
-use Rattle.tp_model.specs.declared.link.Token.TheVariants.{Marker}
-use Rattle.tp_model.specs.Network.{on_line, is_first}
-use Rattle.tp_model.specs.Node.{on_link}
-use Rattle.tp_law_machine.specs.NodeOfBytes.{CarriesByte}
-use Rattle.tp_law_machine.proofs.Nodes.{carries, node_took}
-use Rattle.tp_node.proofs.Answered.{takes_ok}
-use Rattle.tp_book.specs.Book.{agreed}
-use Rattle.tp_book.specs.Calls.{front_of}
-use Rattle.tp_book.proofs.Commit.{length-agreed}
+use Rattle.tp_turn.proofs.Lower.{slice_get_within, Marker, on_line, is_first, on_link, CarriesByte, carries, node_took, takes_ok, agreed, front_of, length-agreed}
 use Rattle.tp_turn.proofs.Possible.{can_take}
 use Rattle.tp_turn.proofs.Leads.{takeable_front, ready_some, has_taken}
 use Rattle.tp_turn.proofs.Fronted.{taken_done, taken_is, closed_done, closed_is}

@@ -1,9 +1,7 @@
 use Rattle.std.proofs.Common.{◌≡◌, true, false, refl, rules}
 use Rattle.std.specs.Prelude.{Err}
-use Rattle.tp_model.specs.Image.{node_at, node_of, has_idle_links}
-use Rattle.tp_node.specs.FromImage.{ReadsImage}
+use Rattle.tp_turn.proofs.Lower.{node_at, node_of, has_idle_links, ReadsImage, image_read, image_thawed}
 use Rattle.tp_node.specs.declared.fault.ImageFault.TheVariants.{Memory}
-use Rattle.tp_node.proofs.Answered.{image_read, image_thawed}
 use Rattle.tp_turn.proofs.Begun.{fresh_some, fresh_none, reads_memory}
 use Rattle.tp_turn.proofs.image.lone_node.Goals as goal
 

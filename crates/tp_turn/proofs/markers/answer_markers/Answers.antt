@@ -1,8 +1,5 @@
 use Rattle.std.proofs.Common.{◌≡◌, false, arith, rules}
-use Rattle.std.proofs.lemmas.Option.{slice_get_within}
-use Rattle.tp_book.specs.Needs.{has_recorded_in}
-use Rattle.tp_book.specs.Book.{agreed}
-use Rattle.tp_book.proofs.Commit.{length-agreed}
+use Rattle.tp_turn.proofs.Lower.{slice_get_within, has_recorded_in, agreed, length-agreed}
 use Rattle.tp_turn.specs.Turns.{InOrder}
 use Rattle.tp_turn.specs.Moments.{moment_of}
 use Rattle.tp_turn.specs.Settled.{Records}

@@ -1,12 +1,5 @@
 use Rattle.std.proofs.Common.{◌≡◌, ◌*◌, ◌+◌, true, false, length, sym, ap, ◌∙◌, arith, rules, Some, None}
-use Rattle.std.specs.Option.{option_map}
-use Rattle.std.proofs.lemmas.Option.{slice_get_within}
-use Rattle.tp_model.specs.declared.link.Token.TheVariants.{Marker}
-use Rattle.tp_model.specs.declared.wire.WireEnd.TheVariants.{Link}
-use Rattle.tp_model.specs.Network.{is_first, line_of, on_line, process_at, receiver}
-use Rattle.tp_book.specs.Needs.{has_recorded_in}
-use Rattle.tp_book.specs.Book.{agreed}
-use Rattle.tp_book.proofs.Commit.{length-agreed}
+use Rattle.tp_turn.proofs.Lower.{option_map, slice_get_within, Marker, Link, is_first, line_of, on_line, process_at, receiver, has_recorded_in, agreed, length-agreed}
 use Rattle.tp_turn.proofs.Fronted.{closed_is}
 use Rattle.tp_turn.proofs.Marking.{front_closed, front_open, front_unrecorded, front_unwired}
 use Rattle.tp_turn.proofs.Possible.{comes_in, line_within}

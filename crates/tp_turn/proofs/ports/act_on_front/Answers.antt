@@ -1,6 +1,5 @@
 use Rattle.std.proofs.Common.{◌≡◌, true, rules}
-use Rattle.tp_model.specs.declared.link.Token.TheVariants.{Marker}
-use Rattle.tp_model.specs.Network.{on_line, is_first}
+use Rattle.tp_turn.proofs.Lower.{Marker, on_line, is_first}
 use Rattle.tp_turn.proofs.Hosting.{port_taken, port_closed}
 use Rattle.tp_turn.proofs.ports.act_on_front.Goals as goal
 

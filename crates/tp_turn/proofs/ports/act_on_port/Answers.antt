@@ -1,7 +1,5 @@
 use Rattle.std.proofs.Common.{◌*◌, ◌+◌, sym, ap, ◌∙◌, arith, Some}
-use Rattle.std.specs.Option.{option_map}
-use Rattle.tp_model.specs.Network.{receiver, line_of}
-use Rattle.tp_book.proofs.Commit.{length-agreed}
+use Rattle.tp_turn.proofs.Lower.{option_map, receiver, line_of, length-agreed}
 use Rattle.tp_turn.proofs.Possible.{comes_to}
 use Rattle.tp_turn.proofs.Hosting.{port_wired, port_unwired}
 use Rattle.tp_turn.proofs.ports.act_on_port.Goals as goal

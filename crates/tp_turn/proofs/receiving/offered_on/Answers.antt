@@ -1,9 +1,5 @@
 use Rattle.std.proofs.Common.{length, sym, ap, ◌∙◌, arith, Some}
-use Rattle.std.specs.Option.{option_map}
-use Rattle.tp_model.specs.declared.wire.WireEnd.TheVariants.{Link}
-use Rattle.tp_model.specs.Network.{line_of}
-use Rattle.tp_book.specs.Book.{agreed}
-use Rattle.tp_book.proofs.Commit.{length-agreed}
+use Rattle.tp_turn.proofs.Lower.{option_map, Link, line_of, agreed, length-agreed}
 use Rattle.tp_turn.proofs.Possible.{comes_in, line_within}
 use Rattle.tp_turn.proofs.receiving.offered_on.Goals as goal
 

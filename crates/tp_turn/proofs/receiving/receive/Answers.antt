@@ -1,8 +1,5 @@
 use Rattle.std.proofs.Common.{sym, subst, arith}
-use Rattle.std.proofs.lemmas.Option.{slice_get_within}
-use Rattle.tp_model.specs.Turn.{received}
-use Rattle.tp_book.specs.Book.{agreed}
-use Rattle.tp_book.proofs.Commit.{length-agreed}
+use Rattle.tp_turn.proofs.Lower.{slice_get_within, received, agreed, length-agreed}
 use Rattle.tp_turn.specs.Receiving.{Answered, HasPlace, ReceivesOf, offered_on}
 use Rattle.tp_turn.proofs.Ahead.{receives, ahead}
 use Rattle.tp_turn.proofs.Placing.{placed_next, placed_offered}

@@ -1,7 +1,5 @@
 use Rattle.std.proofs.Common.{[], ◌∷◌, refl, sym, subst}
-use Rattle.tp_model.specs.declared.link.Token.TheVariants.{Data, Ack}
-use Rattle.tp_model.specs.declared.link.Received.TheVariants.{Nothing, JustData, JustAck, DataThenAck, AckThenData}
-use Rattle.tp_model.specs.Turn.{received}
+use Rattle.tp_turn.proofs.Lower.{Data, Ack, Nothing, JustData, JustAck, DataThenAck, AckThenData, received}
 use Rattle.tp_turn.specs.Receiving.{Answered, HasPlace, ReceivesOf}
 use Rattle.tp_turn.proofs.Answering.{each_none, each_one, each_two, of_all, of_front}
 use Rattle.tp_turn.proofs.Placing.{placed_taken, placed_behind}

@@ -1,7 +1,5 @@
 use Rattle.std.proofs.Common.{◌≡◌, ◌++◌, sym, ap, ◌∙◌, rules, Some}
-use Rattle.tp_model.specs.Node.{on_link}
-use Rattle.tp_law_machine.proofs.Nodes.{carries, node_took}
-use Rattle.tp_node.proofs.Answered.{takes_ok}
+use Rattle.tp_turn.proofs.Lower.{on_link, carries, node_took, takes_ok}
 use Rattle.tp_turn.proofs.receiving.take_one.Goals as goal
 
 pub returns-in-Ok-Some-clause-did : goal.returns-in-Ok-Some-clause-did

@@ -1,8 +1,5 @@
 use Rattle.std.proofs.Common.{◌≡◌, true, false, sym, subst, arith, rules}
-use Rattle.std.proofs.lemmas.Option.{slice_get_within}
-use Rattle.tp_book.specs.Needs.{is_asked}
-use Rattle.tp_book.specs.Book.{agreed}
-use Rattle.tp_book.proofs.Commit.{length-agreed}
+use Rattle.tp_turn.proofs.Lower.{slice_get_within, is_asked, agreed, length-agreed}
 use Rattle.tp_turn.specs.Moments.{moment_of, IsNodeOf, Done}
 use Rattle.tp_turn.specs.Settled.{Records}
 use Rattle.tp_turn.proofs.Recording.{asked_thawed, recorded_done, recorded_is, unasked_done}

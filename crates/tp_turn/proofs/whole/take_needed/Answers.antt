@@ -1,9 +1,5 @@
 use Rattle.std.proofs.Common.{◌≡◌, true, false, sym, subst, rules}
-use Rattle.tp_law_network.specs.Reserved.{turn_acts}
-use Rattle.tp_book.specs.Needs.{has_recorded_in}
-use Rattle.tp_book.specs.Calls.{without_run}
-use Rattle.tp_book.specs.declared.refusal.Refusal.TheVariants.{JournalFull}
-use Rattle.tp_book.specs.Turning.{takes_refusal}
+use Rattle.tp_turn.proofs.Lower.{turn_acts, has_recorded_in, without_run, JournalFull, takes_refusal}
 use Rattle.tp_turn.specs.Moments.{moment_of, Added, Done}
 use Rattle.tp_turn.specs.Whole.{EndsWhole}
 use Rattle.tp_turn.proofs.Ahead.{rests_ahead}

@@ -1,13 +1,7 @@
-use Rattle.std.proofs.Common.{◌≡◌, ℕ, List, Option, Some, None, refl, sym, ap, subst}
-use Rattle.std.specs.Prelude.{Vec, Result, Ok, Err, OnOk, IfErr, is_some}
-use Rattle.std.specs.declared.alloc.Global.{Global}
-use Rattle.std.specs.Io.KnownBytes.{Appends}
-use Rattle.tp_model.specs.NodeState.{NodeState}
-use Rattle.tp_turn.specs.Output.{OutputAs}
-use Rattle.tp_turn.specs.Tried.{fresh_image}
+use Rattle.std.proofs.Common.{◌≡◌, ℕ, List, Option, Some, None, refl, sym, ap, subst, Result, Ok, Err, OnOk}
+use Rattle.std.specs.Prelude.{Vec, IfErr, is_some}
+use Rattle.tp_views.proofs.Lower.{Global, Appends, NodeState, OutputAs, fresh_image, TryFault, BadImage, Memory}
 use Rattle.tp_views.specs.declared.refusal.Refusal.{Refusal}
-use Rattle.tp_turn.specs.declared.image.TryFault.{TryFault}
-use Rattle.tp_turn.specs.declared.image.TryFault.TheVariants.{BadImage, Memory}
 use Rattle.tp_views.specs.declared.refusal.Refusal.TheVariants.{DeviceFailed, Trial}
 use Rattle.tp_views.specs.declared.commands.TheConstants.{TRY_QUANTUM}
 use Rattle.tp_views.specs.Attempt.{TryAnswer}

@@ -1,7 +1,5 @@
 use Rattle.std.proofs.Common.{rules, ℕ, List, take, sym, subst}
-use Rattle.std.proofs.lemmas.List.{take_rest}
-use Rattle.std.specs.Io.KnownBytes.{Appends}
-use Rattle.tp_stream_files.proofs.Fronts.{more_appended, kept_appended}
+use Rattle.tp_views.proofs.Lower.{take_rest, Appends, more_appended, kept_appended}
 use Rattle.tp_views.proofs.commands.put.Goals.{in-Ok, in-Err}
 use Rattle.tp_views.proofs.commands.put.Goals as goal
 

@@ -1,6 +1,5 @@
 use Rattle.std.proofs.Common.{arith}
-use Rattle.std.proofs.lemmas.Grind.{common_steps}
-use Rattle.std.proofs.lemmas.List.{drop-drop}
+use Rattle.tp_views.proofs.Lower.{common_steps, drop-drop}
 use Rattle.tp_views.proofs.image_fields.input_in.Goals as goal
 
 pub returns-else-state-eq1 : goal.returns-else-state-eq1

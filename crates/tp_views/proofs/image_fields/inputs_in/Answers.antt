@@ -1,6 +1,5 @@
 use Rattle.std.proofs.Common.{◌∙◌, ◌∷◌, [], sym}
-use Rattle.tp_model.specs.EndBytes.{in_end_at}
-use Rattle.tp_node.proofs.EndsAsBytes.{four_ends_apart}
+use Rattle.tp_views.proofs.Lower.{in_end_at, four_ends_apart}
 use Rattle.tp_views.proofs.image_fields.inputs_in.Goals as goal
 
 pub returns : goal.returns

@@ -1,6 +1,5 @@
 use Rattle.std.proofs.Common.{◌∙◌, ◌∷◌, [], sym}
-use Rattle.tp_model.specs.EndBytes.{out_end_at}
-use Rattle.tp_node.proofs.EndsAsBytes.{four_ends_apart}
+use Rattle.tp_views.proofs.Lower.{out_end_at, four_ends_apart}
 use Rattle.tp_views.proofs.image_fields.outputs_in.Goals as goal
 
 pub returns : goal.returns

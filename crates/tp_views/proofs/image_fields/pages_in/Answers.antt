@@ -1,4 +1,5 @@
-use Rattle.std.proofs.Common.{◌≡◌, ◌/◌, length, drop, ap, arith, length-drop}
+use Rattle.std.proofs.Common.{◌≡◌, length, drop, ap, arith, length-drop}
+use Rattle.std.specs.Prelude.{◌/◌}
 use Rattle.tp_model.specs.declared.limits.TheConstants.{PAGE_BYTES}
 use Rattle.tp_views.proofs.image_fields.pages_in.Goals as goal
 

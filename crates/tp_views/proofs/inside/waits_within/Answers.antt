@@ -1,6 +1,5 @@
 use Rattle.std.proofs.Common.{◌∙◌, ap}
-use Rattle.tp_model.specs.Head.{Head}
-use Rattle.tp_model.specs.Topology.{Topology}
+use Rattle.tp_views.proofs.Lower.{Head, Topology}
 use Rattle.tp_views.specs.Inside.{scene_waits}
 use Rattle.tp_views.specs.Scene.{scene_of}
 use Rattle.tp_views.proofs.inside.waits_within.Goals as goal

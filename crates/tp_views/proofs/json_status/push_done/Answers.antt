@@ -1,6 +1,5 @@
 use Rattle.std.proofs.Common.{◌≡◌, ◌∙◌, ◌++◌, ap, length, string_bytes}
-use Rattle.tp_model.specs.Head.{Head}
-use Rattle.tp_model.specs.Topology.{Topology}
+use Rattle.tp_views.proofs.Lower.{Head, Topology}
 use Rattle.tp_views.specs.Done.{steps_made}
 use Rattle.tp_views.specs.Json.{json_items}
 use Rattle.tp_views.specs.JsonStatus.{node_items, steps_json}

@@ -1,7 +1,6 @@
 use Rattle.std.proofs.Common.{◌∷◌, ◌+◌, take, sym, ap, ◌∙◌}
-use Rattle.std.specs.List.{slice_split}
 use Rattle.std.specs.Prelude.{◌==◌}
-use Rattle.tp_net.proofs.Cuts.{slice_split-none, slice_split-some}
+use Rattle.tp_views.proofs.Lower.{slice_split, slice_split-none, slice_split-some}
 use Rattle.tp_views.proofs.Mapped.{behind}
 use Rattle.tp_views.proofs.maps.first_line.Goals as goal
 

@@ -1,6 +1,5 @@
 use Rattle.std.proofs.Common.{rules, ◌≡◌, ◌∙◌, subst, inr, Ok, Err, Result, OnOk}
-use Rattle.std.specs.Io.KnownBytes.{Appends}
-use Rattle.tp_model.specs.Opening.{verdict}
+use Rattle.tp_views.proofs.Lower.{Appends, verdict}
 use Rattle.tp_views.specs.Front.{AppendsFront}
 use Rattle.tp_views.proofs.opening.show.Goals as goal
 

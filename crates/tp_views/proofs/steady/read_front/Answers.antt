@@ -1,5 +1,4 @@
-use Rattle.tp_recover.proofs.Areas.{area_front-part}
-use Rattle.tp_recover.proofs.Leaving.{read_leaves}
+use Rattle.tp_views.proofs.Lower.{area_front-part, read_leaves}
 use Rattle.tp_views.proofs.steady.read_front.Goals as goal
 
 pub returns-in-Ok-clause-is : goal.returns-in-Ok-clause-is

@@ -1,6 +1,5 @@
 use Rattle.std.proofs.Common.{◌∙◌, ap, drop, string_bytes}
-use Rattle.tp_model.specs.Memory.{offset}
-use Rattle.tp_node.specs.NodeContents.{NodeContents}
+use Rattle.tp_views.proofs.Lower.{offset, NodeContents}
 use Rattle.tp_views.specs.Maps.{rows_seen}
 use Rattle.tp_views.proofs.Traces.{on_ok}
 use Rattle.tp_views.proofs.Workspaces.{few_taken, state_said}

@@ -1,9 +1,6 @@
-use Rattle.std.proofs.Common.{◌≡◌, Option, Some, None, refl}
-use Rattle.std.specs.Prelude.{Err, IsSome}
-use Rattle.tp_model.specs.Image.{node_of}
-use Rattle.tp_model.specs.NodeState.{NodeState}
-use Rattle.tp_node.proofs.Answered.{image_read, image_thawed}
-use Rattle.tp_node.specs.FromImage.{ReadsImage}
+use Rattle.std.proofs.Common.{◌≡◌, Option, Some, None, refl, Err}
+use Rattle.std.specs.Prelude.{IsSome}
+use Rattle.tp_views.proofs.Lower.{node_of, NodeState, image_read, image_thawed, ReadsImage}
 use Rattle.tp_node.specs.declared.fault.ImageFault.TheVariants.{BadImage, Memory}
 use Rattle.tp_views.proofs.tracing.image_node.Goals as goal
 

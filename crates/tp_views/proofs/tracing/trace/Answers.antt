@@ -1,6 +1,5 @@
 use Rattle.std.proofs.Common.{arith}
-use Rattle.tp_law_machine.proofs.Images.{node_of_bytes}
-use Rattle.tp_law_machine.proofs.Numbers.{are_bytes}
+use Rattle.tp_views.proofs.Lower.{node_of_bytes, are_bytes}
 use Rattle.tp_views.proofs.tracing.trace.Goals as goal
 
 pub put_steps-requires : goal.put_steps-requires

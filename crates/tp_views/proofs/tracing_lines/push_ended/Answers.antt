@@ -1,7 +1,5 @@
 use Rattle.std.proofs.Common.{◌∙◌, ◌++◌, ap, append_assoc, string_bytes}
-use Rattle.tp_node.specs.NodeContents.{NodeContents}
-use Rattle.tp_node.specs.Standing.{standing}
-use Rattle.tp_trace.specs.Lines.{stop_line}
+use Rattle.tp_views.proofs.Lower.{NodeContents, standing, stop_line}
 use Rattle.tp_views.specs.Maps.{rows_seen}
 use Rattle.tp_views.specs.Stops.{state_if}
 use Rattle.tp_views.proofs.Traces.{on_ok}

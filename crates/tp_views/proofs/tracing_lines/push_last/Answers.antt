@@ -1,7 +1,5 @@
 use Rattle.std.proofs.Common.{◌≡◌, ◌∙◌, ◌++◌, ℕ, List, Result, Ok, Err, OnOk, ap, append_assoc, cond, is_ok, string_bytes, sym}
-use Rattle.tp_node.specs.NodeContents.{NodeContents}
-use Rattle.tp_trace.specs.Others.{attended}
-use Rattle.tp_trace.specs.declared.others.Linked.{Linked}
+use Rattle.tp_views.proofs.Lower.{NodeContents, attended, Linked}
 use Rattle.tp_views.specs.Maps.{rows_seen}
 use Rattle.tp_views.specs.Stops.{is_until, state_if, until_text}
 use Rattle.tp_views.specs.Traced.{event, last_line}
@@ -24,9 +22,9 @@ returns c =
     let node_is = c.is_until.ensures.same in
     let begun : record { node = c.push_state_if.new.node; others = linked.others } ≡ linked =
     ap (λ (x : NodeContents). record { node = x; others = linked.others }) (c.in_ok-push_state_if.ensures.same ∙ node_is) in
-    let line = last_line stops linked.node.live (event rows 0 (attended linked)) in
+    let line = last_line stops linked.node.live (event stops.lines rows 0 (attended linked)) in
     let state = state_if rows stops linked.node.live in
-    let first : t1 ≡ t0 ++ line = c.in_ok-push_last_line.ensures ∙ ap (λ (l : Linked). t0 ++ last_line stops l.node.live (event rows 0 (attended l))) begun in
+    let first : t1 ≡ t0 ++ line = c.in_ok-push_last_line.ensures ∙ ap (λ (l : Linked). t0 ++ last_line stops l.node.live (event stops.lines rows 0 (attended l))) begun in
     let behind : c.as_str.result.now ≡ state =
     c.as_str.ensures.value ∙ c.in_ok-push_state_if.ensures.text ∙ ap (λ s. s ++ state_if rows stops c.is_until.new.node.live) c.new-state.ensures.bytes
     ∙ ap (λ (x : NodeContents). state_if rows stops x.live) node_is in

@@ -1,6 +1,5 @@
 use Rattle.std.proofs.Common.{◌≡◌, ◌<◌, ◌^◌, ◌∙◌, ℕ, List, Option, Some, Bor, arith, refl, sym, ap}
-use Rattle.std.specs.Fmt.{decimal}
-use Rattle.std.specs.Option.{option_map}
+use Rattle.tp_words.proofs.Lower.{decimal, option_map}
 use Rattle.tp_words.specs.Given.{given}
 use Rattle.tp_words.specs.Numbers.{NumberOption}
 use Rattle.tp_words.proofs.OfNumbers.{unfit_none, unfit_some}

@@ -1,7 +1,5 @@
 use Rattle.std.proofs.Common.{◌≡◌, ℕ, Bool, true, false, not, List, nat_eq, sym, ap, ◌∙◌}
-use Rattle.std.proofs.lemmas.Fmt.{parse-decimal}
-use Rattle.std.proofs.lemmas.Slice.Eq.{bytes_eq-Decides}
-use Rattle.std.specs.Cmp.Lexicographic.{pointwise}
+use Rattle.tp_words.proofs.Lower.{parse-decimal, bytes_eq-Decides, pointwise}
 use Rattle.tp_words.proofs.numbers.number_of.Goals as goal
 
 pub returns-in_default-clause-none : goal.returns-in_default-clause-none

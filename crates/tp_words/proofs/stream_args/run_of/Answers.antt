@@ -1,7 +1,5 @@
 use Rattle.std.proofs.Common.{◌≡◌, ◌⊎◌, List, sym, subst, inl, inr, codes}
-use Rattle.std.specs.declared.alloc.Global.{Global}
-use Rattle.std.specs.declared.string.String.{String}
-use Rattle.clap.specs.declared.parser.matches.ArgMatches.{ArgMatches}
+use Rattle.tp_words.proofs.Lower.{Global, String, ArgMatches}
 use Rattle.tp_words.specs.Numbers.{FoundOther}
 use Rattle.tp_words.specs.StreamRefused.{IsRunRefused, IsWordFault}
 use Rattle.tp_words.specs.declared.arg_fault.ArgFault.{ArgFault}

@@ -1,6 +1,5 @@
 use Rattle.std.proofs.Common.{◌≡◌, ◌⊎◌, ℕ, List, All, Any, Bor, map, subst, sym}
-use Rattle.std.proofs.lemmas.List.Elements.{All-push}
-use Rattle.tp_stream_files.specs.declared.ends.PortFile.{PortFile}
+use Rattle.tp_words.proofs.Lower.{All-push, PortFile}
 use Rattle.tp_words.specs.Ends.{IsFile, IsNoFile, file_text}
 use Rattle.tp_words.specs.declared.stream_ends.EndsFault.{EndsFault}
 use Rattle.tp_words.specs.declared.stream_ends.EndsFault.TheVariants.{File, Memory}

@@ -1,7 +1,5 @@
 use Rattle.std.proofs.Common.{◌≡◌, ◌<◌, ◌++◌, ◌∷◌, ℕ, List, Bor, inr, refl}
-use Rattle.std.proofs.lemmas.Fmt.{decimal_nonempty}
-use Rattle.std.specs.Fmt.{decimal}
-use Rattle.tp_model.specs.declared.limits.TheConstants.{MAX_PORTS}
+use Rattle.tp_words.proofs.Lower.{decimal_nonempty, decimal, MAX_PORTS}
 use Rattle.tp_words.proofs.Texts.{if_some, rests}
 use Rattle.tp_words.proofs.stream_ends.have_of.Goals as goal
 

@@ -1,8 +1,5 @@
 use Rattle.std.proofs.Common.{◌≡◌, ◌∙◌, ◌++◌, ℕ, Bool, List, Bor, map, ap, inr, refl, rules, codes, bytes_eq}
-use Rattle.std.specs.Bool.{Decides}
-use Rattle.std.specs.Cmp.Lexicographic.{pointwise}
-use Rattle.std.specs.declared.alloc.Global.{Global}
-use Rattle.std.specs.declared.string.String.{String}
+use Rattle.tp_words.proofs.Lower.{Decides, pointwise, Global, String}
 use Rattle.tp_words.specs.Given.{all_given, all_given_in}
 use Rattle.tp_words.proofs.Refused.{texts_decide}
 use Rattle.tp_words.proofs.stream_ends.texts_of.Goals as goal

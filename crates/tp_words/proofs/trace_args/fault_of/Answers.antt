@@ -1,7 +1,5 @@
 use Rattle.std.proofs.Common.{All, subst, take}
-use Rattle.std.proofs.lemmas.List.{take_all}
-use Rattle.std.proofs.lemmas.List.Elements.{All-more}
-use Rattle.tp_stream_files.specs.declared.ends.PortFile.{PortFile}
+use Rattle.tp_words.proofs.Lower.{take_all, All-more, PortFile}
 use Rattle.tp_words.specs.TraceArgs.{AreOfLinks, IsOfLink}
 use Rattle.tp_words.proofs.trace_args.fault_of.Goals as goal
 

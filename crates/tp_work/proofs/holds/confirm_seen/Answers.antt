@@ -1,8 +1,5 @@
 use Rattle.std.proofs.Common.{[], ◌∷◌, ◌++◌, sym, ap, ◌∙◌}
-use Rattle.tp_book.specs.Acts.{confirm_entries}
-use Rattle.tp_book.specs.Host.{after_confirm}
-use Rattle.tp_book.specs.Receipts.{confirm_receipt}
-use Rattle.tp_shared.specs.Seals.{Stage}
+use Rattle.tp_work.proofs.Lower.{confirm_entries, after_confirm, confirm_receipt, Stage}
 use Rattle.tp_work.proofs.Sessions.{did_just, has_port, seen_twice}
 use Rattle.tp_work.proofs.holds.confirm_seen.Goals as goal
 

@@ -1,8 +1,5 @@
 use Rattle.std.proofs.Common.{[], ◌∷◌, ◌++◌, map, sym, ap, ◌∙◌}
-use Rattle.tp_model.specs.declared.entry.Entry.TheVariants.{HostIn}
-use Rattle.tp_book.specs.Host.{after_inputs}
-use Rattle.tp_book.specs.Receipts.{input_receipt}
-use Rattle.tp_shared.specs.Seals.{Stage}
+use Rattle.tp_work.proofs.Lower.{HostIn, after_inputs, input_receipt, Stage}
 use Rattle.tp_work.proofs.Sessions.{did_just, has_port, seen_twice}
 use Rattle.tp_work.proofs.holds.offer_seen.Goals as goal
 

@@ -1,6 +1,5 @@
 use Rattle.std.proofs.Common.{arith}
-use Rattle.tp_law_machine.proofs.Numbers.{are_bytes}
-use Rattle.tp_model.specs.Image.{node_at}
+use Rattle.tp_work.proofs.Lower.{are_bytes, node_at}
 use Rattle.tp_work.proofs.Made.{made_of}
 use Rattle.tp_work.proofs.nodes.node_in.Goals as goal
 

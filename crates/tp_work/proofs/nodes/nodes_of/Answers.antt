@@ -1,9 +1,6 @@
-use Rattle.std.proofs.Common.{◌∙◌, ℕ, Vec, Global, map, length, sym}
-use Rattle.std.proofs.lemmas.List.{map-id}
-use Rattle.std.proofs.lemmas.Iterator.Adapters.{YieldsList-from_vec}
-use Rattle.std.proofs.lemmas.Iterator.Consumers.{YieldsList-end, YieldsList-turn}
-use Rattle.tp_model.specs.Image.{node_at, node_of}
-use Rattle.tp_model.specs.NodeState.{NodeState}
+use Rattle.std.proofs.Common.{◌∙◌, ℕ, Global, map, length, sym}
+use Rattle.std.specs.Prelude.{Vec}
+use Rattle.tp_work.proofs.Lower.{map-id, YieldsList-from_vec, YieldsList-end, YieldsList-turn, node_at, node_of, NodeState}
 use Rattle.tp_work.proofs.Made.{each_spelt, made_more, made_live, made_each, made_frames, made_all}
 use Rattle.tp_work.proofs.nodes.nodes_of.Goals as goal
 

@@ -1,6 +1,5 @@
 use Rattle.std.proofs.Common.{map}
-use Rattle.std.specs.List.{AllZip}
-use Rattle.tp_model.specs.Image.{node_at}
+use Rattle.tp_work.proofs.Lower.{AllZip, node_at}
 use Rattle.tp_work.specs.Nodes.{IsMade}
 use Rattle.tp_work.proofs.nodes.nodes_of.Given as goal
 

@@ -1,7 +1,5 @@
 use Rattle.std.proofs.Common.{◌≡◌, ◌+◌, ◌≤◌, length, ap, subst, ◌∙◌, arith, OnOk, OnErr}
-use Rattle.tp_model.specs.Disk.{Write, done}
-use Rattle.tp_model.specs.DiskHistory.{Fails}
-use Rattle.tp_disk.proofs.Calls.{broke_one}
+use Rattle.tp_area.proofs.Lower.{Write, done, Fails, broke_one}
 use Rattle.tp_area.specs.Other.{other_gate}
 use Rattle.tp_area.proofs.OtherArea.{piece_inside, put_by, put_leaves, put_place, spare_asked}
 use Rattle.tp_area.proofs.StoreCrashes.{rests_leaves}

@@ -1,11 +1,11 @@
-use Rattle.std.proofs.Common.{true, false, Ok, Err, ◌-◌, refl, eq-eqb, ne_eqb, sym, ap, subst, ◌∙◌, arith, Some}
+use Rattle.std.proofs.Common.{true, false, Err, ◌-◌, refl, eq-eqb, ne_eqb, sym, ap, subst, ◌∙◌, arith, Some}
+use Rattle.std.specs.Prelude.{Ok}
+use Rattle.tp_book.proofs.Lower.{is_full_for_snapshot, NUMBER_LIMIT}
 use Rattle.tp_book.specs.Joined.{book_joined, Ages}
 use Rattle.tp_book.specs.Book.{world_of}
 use Rattle.tp_book.proofs.Fields.{on_ok}
 use Rattle.tp_book.proofs.Stood.{stands_by, joined_by}
 use Rattle.tp_book.proofs.Remarked.{none_of, begin_few, begin_act, begun_value, begun_stands}
-use Rattle.tp_model.specs.Journal.{is_full_for_snapshot}
-use Rattle.tp_model.specs.declared.limits.TheConstants.{NUMBER_LIMIT}
 use Rattle.tp_book.specs.declared.refusal.Refusal.TheVariants.{SnapshotRunning, StoreBroken, JournalFull, Memory}
 use Rattle.tp_book.proofs.Answered.{begin_answered}
 use Rattle.tp_book.proofs.book.Book.begin.Goals as goal

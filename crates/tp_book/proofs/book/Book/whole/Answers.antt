@@ -1,8 +1,5 @@
 use Rattle.std.proofs.Common.{length, ap, ◌∙◌}
-use Rattle.tp_model.specs.Node.{t414}
-use Rattle.tp_model.specs.WholeCut.{whole, whole_of}
-use Rattle.tp_law_machine.proofs.LinkLaws.{has_four_links}
-use Rattle.tp_law_network.proofs.Whole.{whole_holds, whole_only, whole_there}
+use Rattle.tp_book.proofs.Lower.{t414, whole, whole_of, has_four_links, whole_holds, whole_only, whole_there}
 use Rattle.tp_book.specs.Book.{world_of}
 use Rattle.tp_book.specs.Whole.{book_inside}
 use Rattle.tp_book.proofs.book.Book.whole.Goals as goal

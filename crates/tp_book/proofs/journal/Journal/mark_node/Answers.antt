@@ -1,5 +1,4 @@
-use Rattle.tp_model.specs.Snapshot.{node_markers}
-use Rattle.tp_law_network.proofs.Sending.{node_markers_all}
+use Rattle.tp_book.proofs.Lower.{node_markers, node_markers_all}
 use Rattle.tp_book.proofs.MarkedLines.{markers_room, markers_fields}
 use Rattle.tp_book.proofs.journal.Journal.mark_node.Goals as goal
 

@@ -1,7 +1,5 @@
 use Rattle.std.proofs.Common.{◌≡◌, length, map, sym, ◌∙◌}
-use Rattle.std.proofs.lemmas.List.{length-map}
-use Rattle.tp_model.specs.Snapshot.{host_markers}
-use Rattle.tp_law_network.proofs.Sending.{host_markers_all}
+use Rattle.tp_book.proofs.Lower.{length-map, host_markers, host_markers_all}
 use Rattle.tp_book.proofs.MarkedLines.{markers_room, markers_fields}
 use Rattle.tp_book.proofs.journal.Journal.mark_ports.Goals as goal
 

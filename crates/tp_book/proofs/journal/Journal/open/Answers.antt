@@ -1,6 +1,5 @@
 use Rattle.std.proofs.Common.{◌<◌, ◌≤◌, false, sym, refl, ap, subst, ◌∙◌, None, length, map, replicate}
-use Rattle.std.specs.Prelude.{vec_len}
-use Rattle.std.specs.Prelude.{slice_index_or}
+use Rattle.std.specs.Prelude.{vec_len, slice_index_or}
 use Rattle.tp_book.specs.PortParts.{port_made}
 use Rattle.tp_book.specs.Ports.{opened_port}
 use Rattle.tp_book.specs.declared.journal.Journal.TheInside.{Inside}

@@ -1,6 +1,5 @@
 use Rattle.std.proofs.Common.{arith, sym, refl, ap, ◌∙◌, length}
-use Rattle.std.proofs.lemmas.List.{length-map}
-use Rattle.std.proofs.lemmas.Option.{slice_get_read}
+use Rattle.tp_book.proofs.Lower.{length-map, slice_get_read}
 use Rattle.tp_book.proofs.ShownOutputs.{shows_upto, shown_few}
 use Rattle.tp_book.proofs.journal.Journal.shown_count.Goals as goal
 

@@ -1,9 +1,5 @@
 use Rattle.std.proofs.Common.{◌≡◌, not, length, get_or, sym, ap, ◌∙◌}
-use Rattle.std.proofs.lemmas.List.{drop_all}
-use Rattle.tp_model.specs.declared.link.Token.TheVariants.{Data}
-use Rattle.tp_model.specs.Network.{pushed, sent}
-use Rattle.tp_model.specs.Snapshot.{Snapshot, is_closed}
-use Rattle.tp_law_network.proofs.Lines.{length_pushed}
+use Rattle.tp_book.proofs.Lower.{drop_all, Data, pushed, sent, Snapshot, is_closed, length_pushed}
 use Rattle.tp_book.proofs.Collected.{next_collected}
 use Rattle.tp_book.proofs.running.Running.collect_all.Goals as goal
 

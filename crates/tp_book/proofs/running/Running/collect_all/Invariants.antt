@@ -1,7 +1,6 @@
 -- What is left to be collected has room, and leads to the final lines of the cut.
 use Rattle.std.proofs.Common.{◌≡◌, not, length, drop}
-use Rattle.tp_model.specs.Network.{sent}
-use Rattle.tp_model.specs.Snapshot.{is_closed}
+use Rattle.tp_book.proofs.Lower.{sent, is_closed}
 use Rattle.tp_book.specs.Room.{HasRoom}
 use Rattle.tp_book.proofs.running.Running.collect_all.Given as goal
 

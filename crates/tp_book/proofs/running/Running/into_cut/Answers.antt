@@ -1,9 +1,6 @@
 use Rattle.std.proofs.Common.{◌≡◌, true, get_or, sym, ◌∙◌, Some}
 use Rattle.std.specs.Prelude.{◌&&◌}
-use Rattle.std.specs.List.{list_all}
-use Rattle.tp_model.specs.Network.{has_wire}
-use Rattle.tp_model.specs.WholeCut.{all_closed}
-use Rattle.tp_law_network.proofs.Partial.{cond_some}
+use Rattle.tp_book.proofs.Lower.{list_all, has_wire, all_closed, cond_some}
 use Rattle.tp_book.proofs.Counts.{whole-counts}
 use Rattle.tp_book.proofs.running.Running.into_cut.Goals as goal
 

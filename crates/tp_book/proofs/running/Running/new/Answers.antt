@@ -1,7 +1,6 @@
 use Rattle.std.proofs.Common.{ℕ, ◌+◌, true, length, set, map, ap, ◌∙◌, arith, length-set}
-use Rattle.tp_model.specs.WholeCut.{WholeCut}
+use Rattle.tp_book.proofs.Lower.{WholeCut, length-replicate}
 use Rattle.tp_book.proofs.Counts.{first_is}
-use Rattle.std.proofs.lemmas.List.{length-replicate}
 use Rattle.tp_book.proofs.running.Running.new.Goals as goal
 
 pub returns : goal.returns

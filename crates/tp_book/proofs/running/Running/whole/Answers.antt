@@ -1,8 +1,6 @@
 use Rattle.std.proofs.Common.{◌≡◌, true, false, cond, length, get_or, sym, ap, ◌∙◌, Some, None}
 use Rattle.std.specs.Prelude.{◌&&◌}
-use Rattle.std.specs.List.{list_all}
-use Rattle.tp_model.specs.Network.{has_wire}
-use Rattle.tp_model.specs.WholeCut.{all_closed}
+use Rattle.tp_book.proofs.Lower.{list_all, has_wire, all_closed}
 use Rattle.tp_book.proofs.Counts.{whole-counts, both_false}
 use Rattle.tp_book.proofs.running.Running.whole.Goals as goal
 

@@ -1,10 +1,5 @@
-use Rattle.std.proofs.Common.{◌≡◌, ◌++◌, ◌∷◌, [], length, set, take, sym, ap, ◌∙◌, arith, Some, slice_get}
-use Rattle.std.proofs.Common.{List}
-use Rattle.tp_model.specs.declared.link.Token.{Token}
-use Rattle.tp_model.specs.Network.{on_line}
-use Rattle.tp_model.specs.WholeCut.{WholeCut}
-use Rattle.tp_net.specs.declared.line.TheConstants.{LINE_TOKENS}
-use Rattle.tp_law_network.proofs.Lines.{on_set_same}
+use Rattle.std.proofs.Common.{◌≡◌, ◌++◌, ◌∷◌, [], length, set, take, sym, ap, ◌∙◌, arith, Some, slice_get, List}
+use Rattle.tp_book.proofs.Lower.{Token, on_line, WholeCut, LINE_TOKENS, on_set_same}
 use Rattle.tp_book.proofs.Before.{before_ends, before_goes_on, before_room, one_more}
 use Rattle.tp_book.proofs.snap_cut.Cut.collect_before.Goals as goal
 

@@ -1,7 +1,6 @@
 -- The tokens so far are no Markers, and are on the line of the cut.
 use Rattle.std.proofs.Common.{◌≡◌, ◌++◌, drop, take, set}
-use Rattle.tp_model.specs.Markers.{before}
-use Rattle.tp_model.specs.Network.{on_line}
+use Rattle.tp_book.proofs.Lower.{before, on_line}
 use Rattle.tp_book.proofs.snap_cut.Cut.collect_before.Given as goal
 
 abbrev pub invariant-loop-at : goal.invariant-loop-at

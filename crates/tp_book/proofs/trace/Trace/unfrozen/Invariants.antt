@@ -1,5 +1,4 @@
-use Rattle.std.proofs.Common.{None}
-use Rattle.std.specs.Prelude.{replicate}
+use Rattle.std.proofs.Common.{None, replicate}
 use Rattle.tp_book.proofs.trace.Trace.unfrozen.Given as goal
 
 abbrev pub ghost-of : goal.ghost-of

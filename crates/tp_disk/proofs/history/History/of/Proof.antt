@@ -1,10 +1,10 @@
 -- A value of no bytes is made, whose field is the history that the contract names.
 use Rattle.std.proofs.Common.{List, [], ◌∷◌, ◌++◌, refl}
+use base.Logic.{SProp, ent}
 use seplogic.Ra.Ura.{Ura}
 use mir.Syntax.{Fn, a_type}
 use mir.Val.{Val, vptr, vstruct, vnil}
 use mir.MapTy.{inst_fn}
-use base.Logic.{SProp, ent}
 use prog.Memory.{Memory}
 use prog.Routine.{Routine}
 use prog.Wp.{Calls, Loops, WpFn, Tables}

@@ -1,6 +1,5 @@
 use Rattle.std.proofs.Common.{rules, refl, sym, ap, true, length, Ok, Err}
-use Rattle.std.proofs.lemmas.Bool.{true≢false}
-use Rattle.tp_model.specs.Topology.{Topology}
+use Rattle.tp_flush.proofs.Lower.{true≢false, Topology}
 use Rattle.tp_flush.specs.declared.progress.Progress.{Progress}
 use Rattle.tp_flush.specs.declared.imaged.Images.{Images}
 use Rattle.tp_flush.specs.Ends.{switched_of}

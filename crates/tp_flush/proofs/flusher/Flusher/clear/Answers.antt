@@ -1,19 +1,5 @@
-use Rattle.std.proofs.Common.{◌≡◌, true, false, refl, sym, subst, ap, ◌∙◌, ℕ, ◌<◌, length, get_or, arith, ◌≤◌}
-use Rattle.std.specs.Prelude.{Ok}
-use Rattle.tp_model.specs.NodeState.{NodeState}
-use Rattle.tp_model.specs.Node.{t414}
-use Rattle.tp_model.specs.Disk.{Moment}
-use Rattle.tp_model.specs.DiskHistory.{State}
-use Rattle.tp_model.specs.DeviceAreas.{device_areas}
-use Rattle.tp_model.specs.Opening.{verdict}
-use Rattle.tp_model.specs.Runs.{World}
-use Rattle.tp_model.specs.Walks.{Walks}
-use Rattle.tp_model.specs.StoreCalls.{Called, clear_calls}
-use Rattle.tp_model.specs.WriteOrder.{Resting}
-use Rattle.tp_area.specs.Other.{Cleared, OtherIsClosed, if_open, other_gate}
-use Rattle.tp_shared.specs.Told.{IsFirst}
-use Rattle.tp_shared.specs.declared.told.Told.{Told}
-use Rattle.tp_area.specs.Tails.{content_beside}
+use Rattle.std.proofs.Common.{◌≡◌, true, false, refl, sym, subst, ap, ◌∙◌, ℕ, ◌<◌, length, get_or, arith, ◌≤◌, Ok}
+use Rattle.tp_flush.proofs.Lower.{NodeState, t414, Moment, State, device_areas, verdict, World, Walks, Called, clear_calls, Resting, Cleared, OtherIsClosed, if_open, other_gate, IsFirst, Told, content_beside, Place}
 use Rattle.tp_flush.specs.Copying.{IsPartOut}
 use Rattle.tp_flush.specs.Progress.{is_out}
 use Rattle.tp_flush.specs.Known.{Began, Known}
@@ -24,7 +10,6 @@ use Rattle.tp_flush.proofs.Closed.{clear_content, put_copies}
 use Rattle.tp_flush.proofs.Devices.{clear_head, put_device}
 use Rattle.tp_flush.proofs.Goings.{goes_still}
 use Rattle.tp_flush.proofs.Puts.{Answered, after_put, cleared_walks, on_ok, on_ok_same, put_answered, put_keeps, put_known, put_net, put_stored, put_tried, told_put}
-use Rattle.tp_area.specs.declared.place.Place.{Place}
 use Rattle.tp_flush.proofs.Forms.{holds_at}
 use Rattle.tp_flush.proofs.Breaking.{first_where, whole_where}
 use Rattle.tp_flush.proofs.flusher.Flusher.clear.Given as given

@@ -1,10 +1,6 @@
 use Rattle.std.proofs.Common.{rules, arith, ◌≡◌, ◌+◌, length, subst, sym}
-use Rattle.tp_model.specs.declared.limits.TheConstants.{IMAGE_HEAD_BYTES}
-use Rattle.tp_model.specs.Disk.{written}
-use Rattle.tp_model.specs.Topology.{Topology}
-use Rattle.tp_area.specs.Pieces.{piece_place}
+use Rattle.tp_flush.proofs.Lower.{IMAGE_HEAD_BYTES, written, Topology, piece_place, content_beside}
 use Rattle.tp_flush.proofs.Goings.{goes_then, tried_then, went_then}
-use Rattle.tp_area.specs.Tails.{content_beside}
 use Rattle.tp_flush.specs.Copying.{HasRecorded, IsPartOut}
 use Rattle.tp_flush.proofs.Standing.{head_out, part_put}
 use Rattle.tp_flush.proofs.flusher.Flusher.copy_head.Goals as goal

@@ -1,7 +1,6 @@
 use Rattle.std.proofs.Common.{Bool, rules, ◌≡◌, ◌+◌, length, take, sym, subst, ap, ◌∙◌, arith, get_or}
+use Rattle.tp_flush.proofs.Lower.{Topology, content_beside}
 use Rattle.tp_flush.proofs.Goings.{goes_then, tried_then, went_then}
-use Rattle.tp_model.specs.Topology.{Topology}
-use Rattle.tp_area.specs.Tails.{content_beside}
 use Rattle.tp_flush.specs.declared.progress.Progress.{Progress}
 use Rattle.tp_flush.specs.Copying.{IsPartOut}
 use Rattle.tp_flush.specs.Progress.{is_out}

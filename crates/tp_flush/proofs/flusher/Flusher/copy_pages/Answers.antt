@@ -1,10 +1,6 @@
 use Rattle.std.proofs.Common.{rules, arith, suc, ◌+◌, ◌*◌, ℕ, List, length, subst, sym, ◌≡◌, ap, ◌∙◌}
 use Rattle.std.specs.Prelude.{flat_map}
-use Rattle.tp_model.specs.declared.limits.TheConstants.{PAGE_BYTES}
-use Rattle.tp_model.specs.Disk.{written}
-use Rattle.tp_model.specs.Topology.{Topology}
-use Rattle.tp_area.specs.Pieces.{piece_place, place_in_image}
-use Rattle.tp_area.specs.Tails.{content_beside}
+use Rattle.tp_flush.proofs.Lower.{PAGE_BYTES, written, Topology, piece_place, place_in_image, content_beside}
 use Rattle.tp_flush.specs.Copying.{IsPartOut}
 use Rattle.tp_flush.proofs.Goings.{goes_then, tried_then, went_then}
 use Rattle.tp_flush.proofs.Standing.{pages_out, part_looked, part_put}

@@ -1,10 +1,7 @@
 use Rattle.std.proofs.Common.{refl, sym, subst, ap, ◌∙◌, ◌≤◌, arith}
-use Rattle.tp_model.specs.DiskHistory.{State}
-use Rattle.tp_shared.specs.Told.{IsFirst}
+use Rattle.tp_flush.proofs.Lower.{State, IsFirst, Told, IsFrozenAs}
 use Rattle.tp_flush.specs.Known.{Known}
-use Rattle.tp_shared.specs.declared.told.Told.{Told}
 use Rattle.tp_flush.specs.Flushing.{AreGone, KeepsCopy, Flushing, IsOfDevice, KeepsWorld, OnlyLooked}
-use Rattle.tp_model.specs.FrozenAs.{IsFrozenAs}
 use Rattle.tp_flush.proofs.Closed.{frozen_told, look_copies}
 use Rattle.tp_flush.proofs.Gone.{gone_told}
 use Rattle.tp_flush.proofs.Devices.{look_device}

@@ -1,7 +1,7 @@
 use Rattle.std.proofs.Common.{Bool, List, [], ap, length, inl, subst, sym, ◌∙◌, arith, rules}
+use Rattle.tp_shared.specs.Frozen.{keeps_pages}
 use Rattle.tp_flush.proofs.Imaging.{imaged_between}
 use Rattle.tp_flush.proofs.Reasons.{why_still}
-use Rattle.tp_shared.specs.Frozen.{keeps_pages}
 use Rattle.tp_flush.specs.CopiedIn.{CopiedIn}
 use Rattle.tp_flush.specs.Flushing.{FlushedOn}
 use Rattle.tp_flush.specs.Ends.{WaitsBehind}

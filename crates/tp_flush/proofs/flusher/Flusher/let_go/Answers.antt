@@ -1,6 +1,5 @@
 use Rattle.std.proofs.Common.{ap, subst, sym, ◌∙◌, get_or}
-use Rattle.tp_area.specs.Tails.{content_beside}
-use Rattle.tp_model.specs.Topology.{Topology}
+use Rattle.tp_flush.proofs.Lower.{content_beside, Topology}
 use Rattle.tp_flush.specs.declared.progress.Progress.{Progress}
 use Rattle.tp_flush.specs.Copying.{IsPartOut}
 use Rattle.tp_flush.specs.Progress.{with_out}

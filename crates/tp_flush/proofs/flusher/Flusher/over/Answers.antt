@@ -1,14 +1,9 @@
 use Rattle.std.proofs.Common.{◌≡◌, true, refl, sym, subst, ap, ◌∙◌, ◌≤◌, arith}
-use Rattle.tp_ready.specs.Seen.{RaiserValue, unrisen}
-use Rattle.tp_shared.specs.Told.{IsFirst}
-use Rattle.tp_model.specs.Journal.{is_roomy}
+use Rattle.tp_flush.proofs.Lower.{RaiserValue, unrisen, IsFirst, is_roomy, NodeState, MarkedNetwork, true≢false}
 use Rattle.tp_flush.specs.declared.progress.Progress.{Progress}
 use Rattle.tp_flush.specs.Progress.{not_begun}
 use Rattle.tp_flush.specs.Known.{Known}
 use Rattle.tp_flush.specs.Flushing.{IsOfDevice, KeepsWorld}
-use Rattle.tp_model.specs.NodeState.{NodeState}
-use Rattle.tp_model.specs.Snapshot.{MarkedNetwork}
-use Rattle.std.proofs.lemmas.Bool.{true≢false}
 use Rattle.tp_flush.proofs.Closed.{none_out}
 use Rattle.tp_flush.proofs.Begins.{begun, begun_is, first_keeps}
 use Rattle.tp_flush.proofs.Devices.{first_device}

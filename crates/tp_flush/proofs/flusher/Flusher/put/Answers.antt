@@ -1,21 +1,6 @@
-use Rattle.std.proofs.Common.{◌≡◌, ◌+◌, ◌<◌, ◌≤◌, [], ◌∷◌, false, get_or, length, refl, sym, subst, ap, ◌∙◌, ℕ, true, arith, IfOk, OnOk}
-use Rattle.std.specs.Prelude.{Ok}
-use Rattle.tp_model.specs.NodeState.{NodeState}
-use Rattle.tp_model.specs.Node.{t414}
-use Rattle.tp_model.specs.Disk.{Moment}
-use Rattle.tp_model.specs.DiskHistory.{State}
-use Rattle.tp_model.specs.DeviceAreas.{device_areas}
-use Rattle.tp_model.specs.Journal.{image_length}
-use Rattle.tp_model.specs.Opening.{verdict}
-use Rattle.tp_model.specs.Runs.{World}
-use Rattle.tp_model.specs.Walks.{Walks}
-use Rattle.tp_model.specs.StoreCalls.{Called, put_calls}
-use Rattle.tp_model.specs.WriteOrder.{Resting}
-use Rattle.tp_area.specs.Other.{OtherIsClosed, PutBehind, other_gate}
-use Rattle.tp_area.specs.Pieces.{piece_place}
-use Rattle.tp_shared.specs.Told.{IsFirst}
-use Rattle.tp_shared.specs.declared.told.Told.{Told}
-use Rattle.tp_area.specs.Tails.{content_beside}
+use Rattle.std.proofs.Common.{◌≡◌, ◌+◌, ◌<◌, ◌≤◌, [], ◌∷◌, false, get_or, length, refl, sym, subst, ap, ◌∙◌, ℕ, true, arith, OnOk, Ok}
+use Rattle.std.specs.Prelude.{IfOk}
+use Rattle.tp_flush.proofs.Lower.{NodeState, t414, Moment, State, device_areas, image_length, verdict, World, Walks, Called, put_calls, Resting, OtherIsClosed, PutBehind, other_gate, piece_place, IsFirst, Told, content_beside, Place, written}
 use Rattle.tp_flush.specs.Copying.{IsPartOut}
 use Rattle.tp_flush.specs.Progress.{is_out}
 use Rattle.tp_flush.specs.Known.{Began, Known}
@@ -25,8 +10,6 @@ use Rattle.tp_flush.proofs.Appends.{opens, rests_unbroken}
 use Rattle.tp_flush.proofs.Closed.{piece_images, piece_room, put_copies}
 use Rattle.tp_flush.proofs.Devices.{piece_head, put_device}
 use Rattle.tp_flush.proofs.Beside.{put_content}
-use Rattle.tp_area.specs.declared.place.Place.{Place}
-use Rattle.tp_model.specs.Disk.{written}
 use Rattle.tp_flush.proofs.Puts.{if_answered, image_inside, Answered, after_put, on_ok, on_ok_same, piece_walks, put_answered, put_keeps, put_known, put_net, put_stored, put_tried, told_put}
 use Rattle.tp_flush.proofs.Forms.{holds_at}
 use Rattle.tp_flush.proofs.Breaking.{first_where, whole_where}

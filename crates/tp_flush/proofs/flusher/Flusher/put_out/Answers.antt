@@ -1,6 +1,6 @@
 use Rattle.std.proofs.Common.{get_or, ap, subst, sym}
-use Rattle.tp_flush.specs.Flushing.{AreGone, KeepsCopy, Flushing}
 use Rattle.tp_area.specs.Tails.{content_beside}
+use Rattle.tp_flush.specs.Flushing.{AreGone, KeepsCopy, Flushing}
 use Rattle.tp_flush.specs.declared.progress.Progress.{Progress}
 use Rattle.tp_flush.specs.Copying.{IsGone, IsPartOut}
 use Rattle.tp_flush.proofs.Closed.{out_more}

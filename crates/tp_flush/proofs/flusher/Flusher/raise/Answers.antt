@@ -1,11 +1,6 @@
 use Rattle.std.proofs.Common.{refl, sym, subst, ap, ◌∙◌, arith, ◌≤◌}
 use Rattle.std.specs.Prelude.{max}
-use Rattle.tp_ready.specs.Seen.{RaiserValue}
-use Rattle.tp_model.specs.DiskHistory.{State}
-use Rattle.tp_model.specs.Node.{t414}
-use Rattle.tp_model.specs.DeviceAreas.{device_areas}
-use Rattle.tp_model.specs.Walks.{RunLeads}
-use Rattle.tp_shared.specs.Told.{IsFirst}
+use Rattle.tp_flush.proofs.Lower.{RaiserValue, State, t414, device_areas, RunLeads, IsFirst}
 use Rattle.tp_flush.specs.Known.{Known}
 use Rattle.tp_flush.specs.Flushing.{AreGone, KeepsCopy, Flushing, IsOfDevice, KeepsWorld, OnlyLooked}
 use Rattle.tp_flush.proofs.Devices.{raise_device}

@@ -1,8 +1,5 @@
 use Rattle.std.proofs.Common.{◌≡◌, ◌∙◌, ap, sym, subst, arith}
-use Rattle.std.proofs.lemmas.Bool.{leb-true}
-use Rattle.tp_book.specs.Book.{next_in_book}
-use Rattle.tp_shared.specs.Seals.{Stage}
-use Rattle.tp_shared.specs.Told.{IsFirst, ToldSince, told_of}
+use Rattle.tp_flush.proofs.Lower.{leb-true, next_in_book, Stage, IsFirst, ToldSince, told_of}
 use Rattle.tp_flush.specs.Flushing.{Flushing}
 use Rattle.tp_flush.proofs.All.{slips_are_all}
 use Rattle.tp_flush.proofs.flusher.Flusher.settle_all.Goals.{then-has_all, else-has_all}

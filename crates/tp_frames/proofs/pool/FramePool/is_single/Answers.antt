@@ -1,6 +1,5 @@
 use Rattle.std.proofs.Common.{arith}
-use Rattle.std.proofs.lemmas.List.{get_or_read_under}
-use Rattle.std.proofs.lemmas.Bool.Decides.{nat_tests}
+use Rattle.tp_frames.proofs.Lower.{get_or_read_under, nat_tests}
 use Rattle.tp_frames.proofs.Pools.{held_same, counts_here, owners_here}
 use Rattle.tp_frames.proofs.pool.FramePool.is_single.Goals as goal
 

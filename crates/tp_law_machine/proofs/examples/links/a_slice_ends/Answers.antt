@@ -1,7 +1,5 @@
 use Rattle.std.proofs.Common.{◌≡◌, ℕ, suc, [], Some, refl, ◌∙◌}
-use Rattle.tp_model.specs.Step.{step_of}
-use Rattle.tp_model.specs.Node.{node_step, t414}
-use Rattle.tp_model.specs.Network.{steps}
+use Rattle.tp_law_machine.proofs.Lower.{step_of, node_step, t414, steps}
 use Rattle.tp_law_machine.specs.Transfers.{has_sent, has_jumped, jumps}
 use Rattle.tp_law_machine.proofs.Steps.{steps-behind}
 use Rattle.tp_law_machine.proofs.examples.links.a_slice_ends.Goals as goal

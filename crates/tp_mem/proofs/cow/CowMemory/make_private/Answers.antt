@@ -1,6 +1,5 @@
 use Rattle.std.proofs.Common.{◌≡◌, ◌∷◌, [], ◌≤◌, ℕ, Result, Ok, Err, ap, ◌∙◌, arith, IfOk, IsOk, OnOk, OnErr, ◌<◌, true, false, refl}
-use Rattle.std.specs.List.{list_any}
-use Rattle.tp_model.specs.SharedPages.{touches, block_ranges}
+use Rattle.tp_mem.proofs.Lower.{list_any, touches, block_ranges}
 use Rattle.tp_mem.proofs.Touches.{or_none, shared_from-same, wanted_from-same}
 use Rattle.tp_mem.proofs.cow.CowMemory.make_private.Goals as goal
 

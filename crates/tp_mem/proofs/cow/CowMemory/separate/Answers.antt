@@ -1,6 +1,5 @@
 use Rattle.std.proofs.Common.{◌≡◌, ◌∷◌, get_or, false, ap, sym, ◌∙◌, arith}
-use Rattle.std.specs.List.{list_any}
-use Rattle.tp_model.specs.SharedPages.{word_ranges, touches}
+use Rattle.tp_mem.proofs.Lower.{list_any, word_ranges, touches}
 use Rattle.tp_mem.specs.Copies.{Paged}
 use Rattle.tp_mem.proofs.Paged.{at_page, with_shared}
 use Rattle.tp_mem.proofs.Touches.{shared_from-untouched, wanted_from-untouched, zero_plus}

@@ -1,7 +1,5 @@
 use Rattle.std.proofs.Common.{◌≡◌, ◌∷◌, [], ◌+◌, ◌-◌, ◌/◌, ◌<◌, ◌≤◌, ◌||◌, ℕ, List, get_or, false, ap, sym, ◌∙◌, arith}
-use Rattle.std.specs.List.{list_any}
-use Rattle.tp_model.specs.declared.limits.TheConstants.{PAGE_BYTES}
-use Rattle.tp_model.specs.SharedPages.{touches}
+use Rattle.tp_mem.proofs.Lower.{list_any, PAGE_BYTES, touches}
 use Rattle.tp_mem.specs.Copies.{Paged}
 use Rattle.tp_mem.proofs.Paged.{at_page, with_shared}
 use Rattle.tp_mem.proofs.Touches.{range_untouched, shared_from-untouched, zero_plus}

@@ -1,6 +1,5 @@
 use Rattle.std.proofs.Common.{◌<◌, ◌≤◌, ◌+◌, ◌∷◌, length, get_or, set, false, not, ◌&&◌, refl, ap, sym, subst, ◌∙◌, arith, IsSome}
-use Rattle.tp_model.specs.SharedPages.{word_ranges, touches, private_in, wanted_from}
-use Rattle.std.specs.List.{list_any}
+use Rattle.tp_mem.proofs.Lower.{word_ranges, touches, private_in, wanted_from, list_any}
 use Rattle.tp_mem.specs.Copies.{Paged}
 use Rattle.tp_mem.proofs.Paged.{few_flags, private_is, frozen_is, with_shared}
 use Rattle.tp_mem.proofs.Touches.{parted_to-none, parted_to-all, length-parted_to, parted-next, parted-room, want}

@@ -1,6 +1,5 @@
 use Rattle.std.proofs.Common.{◌≡◌, ◌∷◌, ◌-◌, ◌≤◌, ℕ, if◌then◌else◌, sym, subst, ap, ◌∙◌, arith, IfOk, OnOk}
-use Rattle.std.proofs.lemmas.Result.{on_err_weaker}
-use Rattle.tp_model.specs.SharedPages.{word_ranges, private_in}
+use Rattle.tp_mem.proofs.Lower.{on_err_weaker, word_ranges, private_in}
 use Rattle.tp_mem.proofs.Touches.{shared_from-page, wanted_from-page}
 use Rattle.tp_mem.proofs.cow.CowMemory.separate_shared.Goals as goal
 

@@ -1,6 +1,6 @@
 use Rattle.std.proofs.Common.{◌≡◌, ◌<◌, ℕ, List, None, length, get_or, sym, ap, subst, ◌∙◌, arith}
-use Rattle.std.proofs.lemmas.List.{get_or_default}
 use Rattle.std.specs.Prelude.{IfSome}
+use Rattle.std.proofs.lemmas.List.{get_or_default}
 use Rattle.tp_mem.specs.Contents.{page_of}
 use Rattle.tp_mem.specs.Copies.{Paged, frozen_bytes, frozen_of}
 use Rattle.tp_mem.proofs.Copies.{AreCopies-at}

@@ -1,7 +1,5 @@
 use Rattle.std.proofs.Common.{ℕ, ◌≤◌, ◌<◌, List, length, sym, ap, ◌∙◌, arith, inr}
-use Rattle.std.proofs.lemmas.List.{length-map}
-use Rattle.tp_model.specs.declared.limits.TheConstants.{MAX_NODES}
-use Rattle.tp_model.specs.TopologyText.{Said, is_known}
+use Rattle.tp_net.proofs.Lower.{length-map, MAX_NODES, Said, is_known}
 use Rattle.tp_net.proofs.Declared.{name_some, pages_none, pages_some, node_unpaged, node_known, node_many, node_said, kept_step}
 use Rattle.tp_net.proofs.declarations.Declarations.add_node.Goals as goal
 

@@ -1,7 +1,5 @@
 use Rattle.std.proofs.Common.{◌≤◌, ◌<◌, length, sym, ap, ◌∙◌, arith, inr}
-use Rattle.std.proofs.lemmas.List.{length-map}
-use Rattle.tp_model.specs.declared.limits.TheConstants.{MAX_PORTS}
-use Rattle.tp_model.specs.TopologyText.{Said, is_known}
+use Rattle.tp_net.proofs.Lower.{length-map, MAX_PORTS, Said, is_known}
 use Rattle.tp_net.proofs.Declared.{name_none, name_some, port_unnamed, port_known, port_many, port_said, kept_step}
 use Rattle.tp_net.proofs.declarations.Declarations.add_port.Goals as goal
 

@@ -1,10 +1,5 @@
 use Rattle.std.proofs.Common.{◌≡◌, ℕ, List, ap, ◌∙◌, map}
-use Rattle.std.specs.Borrow.{Bor}
-use Rattle.std.specs.Map.{keys_of}
-use Rattle.std.proofs.lemmas.Iterator.{items_from_collect}
-use Rattle.std.proofs.lemmas.Iterator.Consumers.{YieldsList-from_copied, YieldsList-from_rest}
-use Rattle.std.proofs.lemmas.Result.{IfOk-weaker}
-use Rattle.tp_model.specs.TopologyText.{Said}
+use Rattle.tp_net.proofs.Lower.{Bor, keys_of, items_from_collect, YieldsList-from_copied, YieldsList-from_rest, IfOk-weaker, Said}
 use Rattle.tp_net.proofs.Kept.{names_kept}
 use Rattle.tp_net.proofs.declarations.Declarations.names.Goals as goal
 

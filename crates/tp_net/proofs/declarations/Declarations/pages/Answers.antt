@@ -1,9 +1,5 @@
 use Rattle.std.proofs.Common.{◌≡◌, ◌++◌, ◌∷◌, [], ℕ, List, length, sym, ap, ◌∙◌, map, arith}
-use Rattle.std.specs.Borrow.{Bor}
-use Rattle.std.proofs.lemmas.Iterator.Consumers.{YieldsList-from_copied, YieldsList-from_rest, YieldsList-turn, YieldsList-end}
-use Rattle.std.proofs.lemmas.List.{length-map, map-id}
-use Rattle.std.proofs.lemmas.Simd.{map-map}
-use Rattle.tp_model.specs.TopologyText.{Said}
+use Rattle.tp_net.proofs.Lower.{Bor, YieldsList-from_copied, YieldsList-from_rest, YieldsList-turn, YieldsList-end, length-map, map-id, map-map, Said}
 use Rattle.tp_net.proofs.declarations.Declarations.pages.Goals as goal
 use Rattle.tp_net.proofs.declarations.Declarations.pages.Goals.{After-into_iter-count-iterator}
 

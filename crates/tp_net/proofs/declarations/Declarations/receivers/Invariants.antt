@@ -1,7 +1,5 @@
 use Rattle.std.proofs.Common.{◌≡◌, length, map}
-use Rattle.std.specs.List.{range_with_len}
-use Rattle.tp_model.specs.Topology.{end_of}
-use Rattle.tp_model.specs.TopologyText.{other_end}
+use Rattle.tp_net.proofs.Lower.{range_with_len, end_of, other_end}
 use Rattle.tp_net.proofs.declarations.Declarations.receivers.Given as goal
 
 abbrev pub invariant-loop-line : goal.invariant-loop-line

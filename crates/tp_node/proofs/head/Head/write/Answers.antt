@@ -1,13 +1,6 @@
 use Rattle.std.proofs.Common.{◌≡◌, ◌+◌, ◌-◌, ◌*◌, ◌∷◌, ◌++◌, length, drop, refl, ap, ◌∙◌, arith}
-use Rattle.std.proofs.lemmas.List.{append_assoc, length-append}
-use Rattle.std.specs.List.{flat_map}
+use Rattle.tp_node.proofs.Lower.{append_assoc, length-append, flat_map, IMAGE_VERSION, bit, u16_bytes, u32_bytes, out_end_bytes, in_end_bytes, words_of, halt_byte, state_byte, image_head, length-out_end, length-in_end}
 use borrow.Rule.Slice.PartMut.{put_mid}
-use Rattle.tp_model.specs.declared.limits.TheConstants.{IMAGE_VERSION}
-use Rattle.tp_model.specs.Word.{bit}
-use Rattle.tp_model.specs.Bytes.{u16_bytes, u32_bytes}
-use Rattle.tp_model.specs.EndBytes.{out_end_bytes, in_end_bytes}
-use Rattle.tp_model.specs.Image.{words_of, halt_byte, state_byte, image_head}
-use Rattle.tp_law_machine.proofs.EndImages.{length-out_end, length-in_end}
 use Rattle.tp_node.proofs.Pieces.{piece_behind, length-pieces}
 use Rattle.tp_node.proofs.head.Head.write.Goals as goal
 

@@ -1,8 +1,5 @@
 use Rattle.std.proofs.Common.{◌≡◌, ◌*◌, ◌++◌, [], ℕ, List, Option, Some, None, length, drop, ap, ◌∙◌, arith}
-use Rattle.std.specs.Option.{IfSome}
-use Rattle.std.proofs.lemmas.List.{append-nil, drop_all}
-use Rattle.tp_model.specs.declared.limits.TheConstants.{PAGE_BYTES, IMAGE_HEAD_BYTES}
-use Rattle.tp_model.specs.Image.{page_count, image_head}
+use Rattle.tp_node.proofs.Lower.{IfSome, append-nil, drop_all, PAGE_BYTES, IMAGE_HEAD_BYTES, page_count, image_head}
 use Rattle.tp_node.specs.declared.head.Head.{Head}
 use Rattle.tp_node.specs.NodeContents.{frozen_state}
 use Rattle.tp_node.specs.StateWith.{state_with}

@@ -1,7 +1,5 @@
 use Rattle.std.proofs.Common.{◌+◌, true, false, length, refl, sym, ap, subst, ◌∙◌}
-use Rattle.std.proofs.lemmas.List.{take_all}
-use Rattle.tp_model.specs.declared.link.Token.TheVariants.{Data}
-use Rattle.tp_model.specs.Turn.{by_line}
+use Rattle.tp_pieces.proofs.Lower.{take_all, Data, by_line}
 use Rattle.tp_pieces.specs.Behind.{TakesTokens}
 use Rattle.tp_pieces.proofs.Fronts.{fronts_more, fronts_stop}
 use Rattle.tp_pieces.proofs.Halves.{none_taken}

@@ -1,7 +1,6 @@
-use Rattle.std.proofs.Common.{◌≡◌, true, false, sym, ap, ◌∙◌, arith, refl, length-set}
-use Rattle.std.specs.Prelude.{not, ◌≤◌, length}
-use Rattle.tp_model.specs.Network.{has_wire, is_wired, on_line}
-use Rattle.tp_book.proofs.Sending.{wired_some, pushed_open, pushed_shut}
+use Rattle.std.proofs.Common.{◌≡◌, true, false, sym, ap, ◌∙◌, arith, refl, length-set, ◌≤◌, length}
+use Rattle.std.specs.Prelude.{not}
+use Rattle.tp_pieces.proofs.Lower.{has_wire, is_wired, on_line, wired_some, pushed_open, pushed_shut}
 use Rattle.tp_pieces.proofs.Room.{overfilled, pushed-past, short_with}
 use Rattle.tp_pieces.proofs.lanes.Lanes.send.Goals as goal
 

@@ -1,8 +1,5 @@
 use Rattle.std.proofs.Common.{◌+◌, drop, take, refl, ap, ◌∙◌}
-use Rattle.std.proofs.lemmas.List.{take_all}
-use Rattle.tp_model.specs.declared.link.Token.TheVariants.{Data}
-use Rattle.tp_model.specs.Network.{has_wire, sent}
-use Rattle.tp_book.specs.Room.{from_line}
+use Rattle.tp_pieces.proofs.Lower.{take_all, Data, has_wire, sent, from_line}
 use Rattle.tp_pieces.proofs.Room.{overfilled_among, sent_more, split_at}
 use Rattle.tp_pieces.proofs.lanes.Lanes.send_all.Goals as goal
 

@@ -1,6 +1,5 @@
 use Rattle.std.proofs.Common.{◌≡◌, take}
-use Rattle.tp_model.specs.Network.{has_wire, sent}
-use Rattle.tp_book.specs.Room.{from_line}
+use Rattle.tp_pieces.proofs.Lower.{has_wire, sent, from_line}
 use Rattle.tp_pieces.specs.Lanes.{SameLanes}
 use Rattle.tp_pieces.proofs.lanes.Lanes.send_all.Given as goal
 

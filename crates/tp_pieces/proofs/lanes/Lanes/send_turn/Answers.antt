@@ -1,9 +1,6 @@
 use Rattle.std.proofs.Common.{◌≡◌, ◌+◌, ◌++◌, sym, subst}
 use Rattle.std.specs.Prelude.{MatchBool}
-use Rattle.std.proofs.lemmas.List.{map-append}
-use Rattle.tp_model.specs.declared.link.Token.{Token}
-use Rattle.tp_model.specs.Network.{has_wire, sent}
-use Rattle.tp_book.specs.Room.{from_line}
+use Rattle.tp_pieces.proofs.Lower.{map-append, Token, has_wire, sent, from_line}
 use Rattle.tp_pieces.specs.Lanes.{Overfills}
 use Rattle.tp_pieces.proofs.Room.{overfilled_first, sent_both}
 use Rattle.tp_pieces.proofs.lanes.Lanes.send_turn.Goals as goal

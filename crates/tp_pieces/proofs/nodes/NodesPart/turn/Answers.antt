@@ -1,13 +1,6 @@
-use Rattle.std.proofs.Common.{◌≡◌, ◌+◌, ◌*◌, ◌++◌, ◌<◌, ◌≤◌, true, false, length, refl, sym, ap, subst, ◌∙◌, arith, Some, None}
-use Rattle.std.specs.Prelude.{◌&&◌, nat_lt, nat_le}
-use Rattle.std.proofs.lemmas.Option.{slice_get_read}
-use Rattle.tp_model.specs.declared.entry.Entry.TheVariants.{Turn}
-use Rattle.tp_model.specs.declared.limits.TheConstants.{MAX_STEPS}
-use Rattle.tp_model.specs.Network.{OfNode}
-use Rattle.tp_model.specs.Node.{t414}
-use Rattle.tp_model.specs.Turn.{by_link, comes_in, turned}
-use Rattle.tp_model.specs.Entries.{process, does, of_node}
-use Rattle.tp_law_network.proofs.ByItself.{node_there}
+use Rattle.std.proofs.Common.{◌≡◌, ◌+◌, ◌*◌, ◌++◌, ◌<◌, ◌≤◌, true, false, length, refl, sym, ap, subst, ◌∙◌, arith, Some, None, nat_lt, nat_le}
+use Rattle.std.specs.Prelude.{◌&&◌}
+use Rattle.tp_pieces.proofs.Lower.{slice_get_read, Turn, MAX_STEPS, OfNode, t414, by_link, comes_in, turned, process, does, of_node, node_there}
 use Rattle.tp_pieces.specs.Whose.{whose}
 use Rattle.tp_pieces.specs.Held.{has}
 use Rattle.tp_pieces.specs.Inside.{nodes_held}

@@ -1,6 +1,5 @@
 use Rattle.std.proofs.Common.{◌≡◌, ◌≤◌, [], ◌∷◌, rules, ◌++◌, take, drop, length, sum_by, sym, ap, ◌∙◌, subst, take-append-drop, length-append, arith}
-use Rattle.std.proofs.lemmas.List.Sums.{sum_by-append}
-use Rattle.crossbeam_queue.specs.Passes.{view}
+use Rattle.tp_ready.proofs.Lower.{sum_by-append, view}
 use Rattle.tp_ready.proofs.Dealing.{forks, merges, distinct, twice, all_go, first_stays, first_one, rest_one, first_of, rest_of}
 use Rattle.tp_ready.proofs.queue.ReadyQueue.apart.Goals as goal
 

@@ -1,6 +1,5 @@
 use Rattle.std.proofs.Common.{◌≡◌, ◌<◌, ◌∙◌, ◌-◌, ◌+◌, Some, All, rules, take, drop, sym, ap, subst, length, arith}
-use Rattle.std.proofs.lemmas.List.Elements.{All-push}
-use Rattle.crossbeam_queue.specs.Passes.{view, ruled_capacity}
+use Rattle.tp_ready.proofs.Lower.{All-push, view, ruled_capacity}
 use Rattle.tp_ready.specs.Holding.{past_at}
 use Rattle.tp_ready.specs.Numbers.{HandValue}
 use Rattle.tp_ready.specs.Past.{IsNew}

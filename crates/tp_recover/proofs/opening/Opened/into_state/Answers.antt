@@ -1,9 +1,5 @@
 use Rattle.std.proofs.Common.{refl, sym, ap, ◌∙◌, map, Some}
-use Rattle.tp_model.specs.NodeState.{NodeState}
-use Rattle.tp_model.specs.Network.{Network}
-use Rattle.tp_model.specs.Node.{t414}
-use Rattle.tp_model.specs.Opening.{next_of}
-use Rattle.tp_replay.proofs.History.{history_of}
+use Rattle.tp_recover.proofs.Lower.{NodeState, Network, t414, next_of, history_of}
 use Rattle.tp_recover.proofs.ReplayedCuts.{replayed_opened}
 use Rattle.tp_recover.proofs.opening.Opened.into_state.Goals as goal
 

@@ -1,7 +1,5 @@
 use Rattle.std.proofs.Common.{arith, sym, refl, ◌∙◌, []}
-use Rattle.tp_model.specs.declared.entry.Entry.TheVariants.{Confirm}
-use Rattle.tp_model.specs.Entries.{confirmed}
-use Rattle.tp_model.specs.Network.{sent}
+use Rattle.tp_replay.proofs.Lower.{Confirm, confirmed, sent}
 use Rattle.tp_replay.specs.Inside.{replay_state}
 use Rattle.tp_replay.proofs.Applied.{refused, applied, nowhere, cannot, port_count, port_at, port_inside, port_next}
 use Rattle.tp_replay.proofs.Impossible.{confirm_none}

@@ -1,7 +1,5 @@
 use Rattle.std.proofs.Common.{◌≡◌, ◌+◌, ◌*◌, ◌<◌, length, option_to_list, arith, sym, ◌∙◌}
-use Rattle.tp_model.specs.declared.entry.Entry.TheVariants.{HostIn}
-use Rattle.tp_model.specs.Entries.{handed_in}
-use Rattle.tp_book.proofs.Sending.{sends_on-tokens}
+use Rattle.tp_replay.proofs.Lower.{HostIn, handed_in, sends_on-tokens}
 use Rattle.tp_replay.specs.Inside.{replay_state}
 use Rattle.tp_replay.proofs.Applied.{refused, applied, nowhere, cannot, port_count, port_at, line_known, line_there, same_item, room, port_inside, port_next}
 use Rattle.tp_replay.proofs.Impossible.{hand_in_none}

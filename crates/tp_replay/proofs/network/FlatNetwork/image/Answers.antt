@@ -1,8 +1,5 @@
-use Rattle.std.proofs.Common.{◌≡◌, sym, ap, ◌∙◌, arith, map, Some, option_map, slice_get}
-use Rattle.std.proofs.lemmas.Option.{slice_get-get_or, slice_get-map}
-use Rattle.tp_model.specs.Image.{node_at}
-use Rattle.tp_node.specs.NodeContents.{NodeContents}
-use Rattle.tp_law_machine.proofs.Images.{node_at-image}
+use Rattle.std.proofs.Common.{◌≡◌, sym, ap, ◌∙◌, arith, map, Some, slice_get, option_map}
+use Rattle.tp_replay.proofs.Lower.{slice_get-get_or, slice_get-map, node_at, NodeContents, node_at-image}
 use Rattle.tp_replay.proofs.network.FlatNetwork.image.Goals as goal
 
 pub returns-clause-again : goal.returns-clause-again

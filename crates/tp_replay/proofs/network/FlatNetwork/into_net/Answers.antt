@@ -1,7 +1,5 @@
 use Rattle.std.proofs.Common.{map, sym, ap, ◌∙◌}
-use Rattle.tp_model.specs.NodeState.{NodeState}
-use Rattle.tp_model.specs.Image.{image}
-use Rattle.tp_model.specs.Network.{Network}
+use Rattle.tp_replay.proofs.Lower.{NodeState, image, Network}
 use Rattle.tp_replay.proofs.Pages.{images_live}
 use Rattle.tp_replay.proofs.ImagesAgain.{images_spelt, images_again}
 use Rattle.tp_replay.proofs.network.FlatNetwork.into_net.Goals as goal

@@ -1,10 +1,7 @@
 use Rattle.std.proofs.Common.{◌≡◌, ◌*◌, ◌<◌, ◌≤◌, length, arith, sym, refl, ap, ◌∙◌}
 use Rattle.std.specs.Prelude.{is_some}
-use Rattle.std.proofs.lemmas.Bool.{true≢false}
-use Rattle.std.proofs.lemmas.Option.{slice_get_read}
-use Rattle.tp_model.specs.declared.limits.TheConstants.{MAX_STEPS}
+use Rattle.tp_replay.proofs.Lower.{true≢false, slice_get_read, MAX_STEPS, why_most, why_fewer, lacking_frozen}
 use Rattle.tp_replay.proofs.Applied.{node_count}
-use Rattle.tp_node.proofs.Answered.{why_most, why_fewer, lacking_frozen}
 use Rattle.tp_replay.proofs.Ran.{ran_known, ran_room, ran_inside, ran_upto}
 use Rattle.tp_replay.proofs.network.FlatNetwork.run_upto.Goals as goal
 

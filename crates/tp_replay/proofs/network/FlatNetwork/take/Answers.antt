@@ -1,14 +1,6 @@
-use Rattle.std.proofs.Common.{◌≡◌, false, not, ◌&&◌, inl, inr, arith, sym, refl, ◌∙◌, None}
-use Rattle.std.proofs.lemmas.Bool.{cases_Bool, true≢false}
-use Rattle.std.proofs.lemmas.List.{get_or_past}
-use Rattle.tp_model.specs.declared.link.Token.{Token}
-use Rattle.tp_model.specs.declared.link.Token.TheVariants.{Data, Ack, Marker}
-use Rattle.tp_model.specs.NodeState.{NodeState}
-use Rattle.tp_model.specs.Node.{t414}
-use Rattle.tp_model.specs.Network.{Network, is_first, on_line}
-use Rattle.tp_model.specs.Entries.{next}
-use Rattle.tp_model.specs.declared.entry.Entry.TheVariants.{Take}
-use Rattle.tp_model.specs.Markers.{is_marker}
+use Rattle.std.proofs.Common.{◌≡◌, false, not, inl, inr, arith, sym, refl, ◌∙◌, None}
+use Rattle.std.specs.Prelude.{◌&&◌}
+use Rattle.tp_replay.proofs.Lower.{cases_Bool, true≢false, get_or_past, Token, Data, Ack, Marker, NodeState, t414, Network, is_first, on_line, next, Take, is_marker}
 use Rattle.tp_replay.specs.Inside.{replay_state}
 use Rattle.tp_replay.proofs.Applied.{refused}
 use Rattle.tp_replay.proofs.Impossible.{take_unwired, take_behind, take_marker}

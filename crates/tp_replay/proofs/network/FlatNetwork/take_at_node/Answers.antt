@@ -1,15 +1,9 @@
 use Rattle.std.proofs.Common.{◌≡◌, ◌+◌, ◌*◌, ◌<◌, length, arith, sym, refl, ap, ◌∙◌}
 use Rattle.std.specs.Prelude.{is_some}
-use Rattle.std.proofs.lemmas.Bool.{true≢false}
-use Rattle.std.proofs.lemmas.Option.{slice_get_read}
-use Rattle.tp_model.specs.declared.entry.Entry.TheVariants.{Take}
-use Rattle.tp_model.specs.Node.{on_link}
-use Rattle.tp_law_machine.proofs.Nodes.{carries}
+use Rattle.tp_replay.proofs.Lower.{true≢false, slice_get_read, Take, on_link, carries, takes_ok, takes_err, lacking_frozen, answer_on}
 use Rattle.tp_replay.specs.Inside.{replay_state}
 use Rattle.tp_replay.proofs.Applied.{node_count, node_at, room, node_inside, node_next}
 use Rattle.tp_replay.proofs.Fronts.{front_taken}
-use Rattle.tp_node.proofs.Answered.{takes_ok, takes_err, lacking_frozen}
-use Rattle.tp_book.proofs.Sending.{answer_on}
 use Rattle.tp_replay.proofs.Steps.{without_front, node_takes}
 use Rattle.tp_replay.proofs.network.FlatNetwork.take_at_node.Goals as goal
 

@@ -1,8 +1,5 @@
 use Rattle.std.proofs.Common.{◌≡◌, ◌+◌, ◌*◌, ◌<◌, length, option_to_list, arith, sym, ◌∙◌}
-use Rattle.tp_model.specs.declared.entry.Entry.TheVariants.{Take}
-use Rattle.tp_model.specs.Entries.{port_took}
-use Rattle.tp_book.proofs.Sending.{sends_on-tokens}
-use Rattle.tp_law_machine.proofs.Nodes.{carries}
+use Rattle.tp_replay.proofs.Lower.{Take, port_took, sends_on-tokens, carries}
 use Rattle.tp_replay.specs.Inside.{replay_state}
 use Rattle.tp_replay.proofs.Applied.{refused, applied, nowhere, cannot, there_is, same_item, port_count, port_at, room, port_inside, port_next}
 use Rattle.tp_replay.proofs.Impossible.{port_takes_none}

@@ -1,6 +1,5 @@
 use Rattle.std.proofs.Common.{◌≡◌, ◌<◌, length, arith, sym, subst, ◌∙◌}
-use Rattle.std.proofs.lemmas.Option.{slice_get_past}
-use Rattle.tp_law_network.specs.Turns.{IsFront}
+use Rattle.tp_replay.proofs.Lower.{slice_get_past, IsFront}
 use Rattle.tp_replay.specs.Inside.{replay_state}
 use Rattle.tp_replay.proofs.Applied.{refused, node_count}
 use Rattle.tp_replay.proofs.Impossible.{turn_nowhere, turn_uncounted, turn_behind}

@@ -1,14 +1,6 @@
 use Rattle.std.proofs.Common.{◌≡◌, ◌*◌, ◌<◌, length, arith, sym, refl, ap, subst, ◌∙◌}
 use Rattle.std.specs.Prelude.{is_some}
-use Rattle.std.proofs.lemmas.Bool.{true≢false}
-use Rattle.std.proofs.lemmas.Option.{slice_get_read}
-use Rattle.tp_model.specs.Network.{has_wire}
-use Rattle.tp_model.specs.Turn.{by_link, by_line}
-use Rattle.tp_law_network.specs.Turns.{IsFront}
-use Rattle.tp_law_network.proofs.Lines.{length_taken, length_sent}
-use Rattle.tp_law_machine.specs.NodeOfBytes.{CarryBytes}
-use Rattle.tp_node.proofs.Answered.{why_most, why_fewer, lacking_frozen}
-use Rattle.tp_book.specs.Room.{from_line}
+use Rattle.tp_replay.proofs.Lower.{true≢false, slice_get_read, has_wire, by_link, by_line, IsFront, length_taken, length_sent, CarryBytes, why_most, why_fewer, lacking_frozen, from_line}
 use Rattle.tp_replay.proofs.Turned.{node_there, off_lines, out_is, node_can, answers_known, tokens_known, answers_room, tokens_room, turned_inside, turned_upto}
 use Rattle.tp_replay.proofs.network.FlatNetwork.turn_upto.Goals as goal
 

@@ -1,8 +1,6 @@
 use Rattle.std.proofs.Common.{◌≡◌, ◌+◌, ◌*◌, ◌/◌, ◌<◌, Bool, Option, length, refl, sym, ap, subst, ◌∙◌, arith}
 use Rattle.std.specs.Prelude.{◌&&◌, nat_lt}
-use Rattle.std.proofs.lemmas.Option.{slice_get_read}
-use Rattle.tp_model.specs.declared.limits.TheConstants.{PAGE_BYTES}
-use Rattle.tp_model.specs.NodeState.{NodeState}
+use Rattle.tp_shared.proofs.Lower.{slice_get_read, PAGE_BYTES, NodeState}
 use Rattle.tp_shared.specs.Frozen.{has_page_in, keeps_pages}
 use Rattle.tp_shared.proofs.Placing.{celled_after}
 use Rattle.tp_shared.specs.declared.cells.TheConstants.{CELLS}

@@ -1,7 +1,5 @@
 use Rattle.std.proofs.Common.{◌≡◌, ◌+◌, ◌*◌, ◌/◌, ◌<◌, length, refl, sym, ap, subst, ◌∙◌, arith}
-use Rattle.std.proofs.lemmas.Option.{slice_get_read}
-use Rattle.tp_node.specs.NodeContents.{NodeContents}
-use Rattle.tp_node.specs.Rest.{rest_of}
+use Rattle.tp_shared.proofs.Lower.{slice_get_read, NodeContents, rest_of}
 use Rattle.tp_shared.proofs.Placing.{celled_after}
 use Rattle.tp_shared.specs.declared.cells.TheConstants.{CELLS}
 use Rattle.tp_shared.proofs.cell.Cell.rest.Goals as goal

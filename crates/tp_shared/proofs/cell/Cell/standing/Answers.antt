@@ -1,6 +1,6 @@
-use Rattle.std.proofs.Common.{◌≡◌, ◌+◌, ◌*◌, ◌/◌, ◌<◌, Some, IfSome, length, slice_get, sym, subst, ap, ◌∙◌, arith, refl}
-use Rattle.std.proofs.lemmas.Option.{slice_get_read}
-use Rattle.tp_node.specs.Standing.{standing}
+use Rattle.std.proofs.Common.{◌≡◌, ◌+◌, ◌*◌, ◌/◌, ◌<◌, Some, length, slice_get, sym, subst, ap, ◌∙◌, arith, refl}
+use Rattle.std.specs.Prelude.{IfSome}
+use Rattle.tp_shared.proofs.Lower.{slice_get_read, standing}
 use Rattle.tp_shared.specs.declared.cells.TheConstants.{CELLS}
 use Rattle.tp_shared.proofs.cell.Cell.standing.Goals as goal
 

@@ -1,9 +1,6 @@
 use Rattle.std.proofs.Common.{◌≡◌, ◌∙◌, Bool, List, Some, slice_get, refl, sym, ap, subst}
 use Rattle.std.specs.Prelude.{is_some}
-use Rattle.std.proofs.lemmas.List.{length-set}
-use Rattle.std.proofs.lemmas.Option.{slice_get_within}
-use Rattle.tp_model.specs.FrozenAs.{IsFrozenAs}
-use Rattle.tp_book.specs.Book.{agreed, world_of}
+use Rattle.tp_shared.proofs.Lower.{length-set, slice_get_within, IsFrozenAs, agreed, world_of}
 use Rattle.tp_shared.specs.Agreement.{Agreement}
 use Rattle.tp_shared.specs.Frozen.{keeps_pages}
 use Rattle.tp_shared.specs.Seals.{Stage}

@@ -1,9 +1,6 @@
 use Rattle.std.proofs.Common.{◌∙◌, ◌<◌, length, set, ap, sym, subst, arith, Some}
 use Rattle.std.specs.Prelude.{is_some}
-use Rattle.std.proofs.lemmas.List.{length-set}
-use Rattle.tp_book.specs.Book.{world_of}
-use Rattle.tp_turn.specs.Moments.{IsNodeOf, moment_of}
-use Rattle.tp_turn.specs.Opened.{OpensIn}
+use Rattle.tp_shared.proofs.Lower.{length-set, world_of, IsNodeOf, moment_of, OpensIn}
 use Rattle.tp_shared.specs.Agreement.{Agreement, answered_with}
 use Rattle.tp_shared.specs.Entries.{OpenedEntries}
 use Rattle.tp_shared.specs.Frozen.{frozen_in}

@@ -1,6 +1,5 @@
 use Rattle.std.proofs.Common.{subst}
-use Rattle.tp_turn.specs.Hosted.{HostDone}
-use Rattle.tp_turn.specs.Over.{ClosesAll}
+use Rattle.tp_shared.proofs.Lower.{HostDone, ClosesAll}
 use Rattle.tp_shared.proofs.Closing.{hosted_closes}
 use Rattle.tp_shared.proofs.Keeping.{hosted_still}
 use Rattle.tp_shared.proofs.locked.Locked.close_all.Goals as goal

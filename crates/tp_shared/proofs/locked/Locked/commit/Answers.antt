@@ -1,13 +1,6 @@
 use Rattle.std.proofs.Common.{◌<◌, ◌≡◌, ◌∙◌, List, [], length, set, ap, refl, sym, subst, arith, Some}
 use Rattle.std.specs.Prelude.{is_some}
-use Rattle.std.proofs.lemmas.List.{length-set}
-use Rattle.tp_model.specs.declared.entry.Entry.{Entry}
-use Rattle.tp_node.specs.NodeContents.{NodeContents}
-use Rattle.tp_book.specs.Book.{world_of}
-use Rattle.tp_book.specs.Calls.{without_run}
-use Rattle.tp_turn.specs.Moments.{Added}
-use Rattle.tp_turn.specs.Opened.{opened_acts, opened_entries}
-use Rattle.tp_turn.proofs.Opening.{turned_by}
+use Rattle.tp_shared.proofs.Lower.{length-set, Entry, NodeContents, world_of, without_run, Added, opened_acts, opened_entries, turned_by}
 use Rattle.tp_shared.specs.Agreement.{Agreement, at_rest}
 use Rattle.tp_shared.specs.Frozen.{frozen_in}
 use Rattle.tp_shared.specs.Seals.{Stage}

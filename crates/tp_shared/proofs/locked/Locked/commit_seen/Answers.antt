@@ -1,6 +1,5 @@
 use Rattle.std.proofs.Common.{◌≡◌, ◌++◌, List, ◌∷◌, [], ap, sym, ◌∙◌}
-use Rattle.tp_model.specs.declared.entry.Entry.{Entry}
-use Rattle.tp_turn.specs.Opened.{opened_entries}
+use Rattle.tp_shared.proofs.Lower.{Entry, opened_entries}
 use Rattle.tp_shared.specs.Seals.{Stage}
 use Rattle.tp_shared.proofs.Seen.{gained_by, held_by}
 use Rattle.tp_shared.proofs.locked.Locked.commit_seen.Goals as goal

@@ -1,11 +1,6 @@
 use Rattle.std.proofs.Common.{◌<◌, ◌≡◌, ◌∙◌, List, [], length, ap, sym, subst, arith, Some}
 use Rattle.std.specs.Prelude.{is_some}
-use Rattle.std.proofs.lemmas.List.{length-set}
-use Rattle.tp_model.specs.declared.entry.Entry.{Entry}
-use Rattle.tp_book.specs.Needs.{is_asked}
-use Rattle.tp_book.specs.Book.{world_of}
-use Rattle.tp_turn.specs.Moments.{Done, IsNodeOf, moment_of}
-use Rattle.tp_turn.specs.Settled.{Records}
+use Rattle.tp_shared.proofs.Lower.{length-set, Entry, is_asked, world_of, Done, IsNodeOf, moment_of, Records}
 use Rattle.tp_shared.specs.Agreement.{Agreement, at_rest}
 use Rattle.tp_shared.specs.Frozen.{frozen_in}
 use Rattle.tp_shared.specs.Holds.{IsBookOf}

@@ -1,7 +1,6 @@
 use Rattle.std.proofs.Common.{ℕ, [], ◌∷◌, ◌++◌, ap, ◌∙◌}
+use Rattle.tp_shared.proofs.Lower.{Book, BookValue}
 use Rattle.std.specs.declared.snapshot.Snapshot.{Snapshot}
-use Rattle.tp_book.specs.declared.book.Book.{Book}
-use Rattle.tp_book.specs.Book.{BookValue}
 use Rattle.tp_shared.specs.Seals.{Stage}
 use Rattle.tp_shared.proofs.BrokenSeen.{sees_now, slips_since, stays_now}
 use Rattle.tp_shared.proofs.Keeping.{seen_more}

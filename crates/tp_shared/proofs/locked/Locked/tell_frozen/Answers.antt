@@ -1,6 +1,5 @@
 use Rattle.std.proofs.Common.{◌∙◌, ap, slice_get, sym, subst}
-use Rattle.tp_model.specs.FrozenAs.{IsFrozenAs}
-use Rattle.tp_book.specs.Book.{world_of}
+use Rattle.tp_shared.proofs.Lower.{IsFrozenAs, world_of}
 use Rattle.tp_shared.specs.Frozen.{keeps_pages}
 use Rattle.tp_shared.specs.Seals.{Stage}
 use Rattle.tp_shared.specs.declared.told.Told.{Told}

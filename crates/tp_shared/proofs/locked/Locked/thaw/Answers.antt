@@ -1,6 +1,5 @@
 use Rattle.std.proofs.Common.{◌∙◌, Bool, false, List, set, refl, sym, ap, subst, None}
-use Rattle.std.proofs.lemmas.List.{length-set}
-use Rattle.tp_book.specs.Book.{world_of}
+use Rattle.tp_shared.proofs.Lower.{length-set, world_of}
 use Rattle.tp_shared.specs.Agreement.{Agreement}
 use Rattle.tp_shared.specs.Seals.{IsSealOf, Stage}
 use Rattle.tp_shared.specs.declared.seal.NodeSeal.{NodeSeal}

@@ -1,6 +1,5 @@
 use Rattle.std.proofs.Common.{[], false}
-use Rattle.tp_model.specs.declared.form.Form.TheVariants.{Turns}
-use Rattle.tp_model.specs.Runs.{fresh}
+use Rattle.tp_shared.proofs.Lower.{Turns, fresh}
 use Rattle.tp_shared.proofs.parts.Parts.new.Given as goal
 
 abbrev pub ghost-pair : goal.ghost-pair

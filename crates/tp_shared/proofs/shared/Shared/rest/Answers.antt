@@ -1,10 +1,5 @@
 use Rattle.std.proofs.Common.{◌≡◌, ◌≤◌, ℕ, ◌+◌, Bool, cond, length, sym, ap, subst, ◌∙◌, arith}
-use Rattle.std.specs.List.{list_all}
-use Rattle.tp_book.specs.Book.{BookValue, agreed, world_of}
-use Rattle.tp_book.specs.Clear.{is_clear}
-use Rattle.tp_book.specs.Kept.{BookKeeps}
-use Rattle.tp_book.proofs.Commit.{length-agreed}
-use Rattle.tp_node.specs.declared.rest.Rest.TheVariants.{Halted, Quiet, Busy}
+use Rattle.tp_shared.proofs.Lower.{list_all, BookValue, agreed, world_of, is_clear, BookKeeps, length-agreed, Halted, Quiet, Busy}
 use Rattle.tp_shared.specs.Resting.{IsRestAt}
 use Rattle.tp_shared.specs.Seals.{Stage}
 use Rattle.tp_shared.proofs.RestSoFar.{HaveRested, all_rested, one_busy, one_halted, one_quiet}

@@ -1,6 +1,5 @@
 use Rattle.std.proofs.Common.{◌≡◌, ◌+◌, ◌++◌, ◌∷◌, [], sym, ◌∙◌, ap, take, drop, length, arith}
-use Rattle.std.proofs.lemmas.Bool.{eqb-true}
-use Rattle.std.proofs.lemmas.List.{length-take-le}
+use Rattle.tp_stream_files.proofs.Lower.{eqb-true, length-take-le}
 use Rattle.tp_stream_files.specs.Told.{Gave}
 use Rattle.tp_stream_files.specs.Trace.{bytes_given, says_end, says_failed}
 use Rattle.tp_stream_files.proofs.Traces.{behind_bytes, behind_length, end_before, end_now, says_failed_gave}

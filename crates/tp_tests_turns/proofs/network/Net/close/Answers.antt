@@ -1,6 +1,5 @@
 use Rattle.std.proofs.Common.{◌≡◌, true, rules}
-use Rattle.tp_model.specs.declared.link.Token.TheVariants.{Marker}
-use Rattle.tp_model.specs.Network.{on_line, is_first}
+use Rattle.tp_tests_turns.proofs.Lower.{Marker, on_line, is_first}
 use Rattle.tp_tests_turns.proofs.Netting.{closed}
 use Rattle.tp_tests_turns.proofs.network.Net.close.Goals as goal
 

@@ -1,7 +1,5 @@
 use Rattle.std.proofs.Common.{◌≡◌, Some, slice_get, ℕ, subst, sym}
-use Rattle.tp_model.specs.NodeState.{NodeState}
-use Rattle.tp_model.specs.Network.{Network}
-use Rattle.tp_law_machine.specs.NodeOfBytes.{IsNodeOfBytes}
+use Rattle.tp_tests_turns.proofs.Lower.{NodeState, Network, IsNodeOfBytes}
 use Rattle.tp_tests_turns.proofs.network.Net.of_device.Goals as goal
 
 pub of_state-net-requires-clause-nodes : goal.of_state-net-requires-clause-nodes

@@ -1,6 +1,5 @@
 use Rattle.std.proofs.Common.{◌≡◌, Some, rules}
-use Rattle.tp_model.specs.declared.wire.WireEnd.TheVariants.{Port as AtPort}
-use Rattle.tp_model.specs.Network.{receiver}
+use Rattle.tp_tests_turns.proofs.Lower.{AtPort, receiver}
 use Rattle.tp_tests_turns.proofs.Netting.{host_took}
 use Rattle.tp_tests_turns.proofs.network.Net.port_takes.Goals as goal
 

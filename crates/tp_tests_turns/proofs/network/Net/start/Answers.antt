@@ -1,7 +1,5 @@
-use Rattle.std.proofs.Common.{sym, subst, ap, ◌∙◌, arith}
-use Rattle.std.specs.Prelude.{None}
-use Rattle.tp_book.specs.Start.{IsFresh, first_book}
-use Rattle.tp_law_machine.proofs.Numbers.{are_bytes}
+use Rattle.std.proofs.Common.{sym, subst, ap, ◌∙◌, arith, None}
+use Rattle.tp_tests_turns.proofs.Lower.{IsFresh, first_book, are_bytes}
 use Rattle.tp_tests_turns.specs.Nets.{HasSeats}
 use Rattle.tp_tests_turns.proofs.Paired.{begins, has_seats}
 use Rattle.tp_tests_turns.proofs.network.Net.start.Goals as goal

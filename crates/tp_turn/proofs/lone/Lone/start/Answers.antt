@@ -1,6 +1,5 @@
 use Rattle.std.proofs.Common.{refl, arith}
-use Rattle.tp_book.specs.Parts.{network_made}
-use Rattle.tp_law_machine.proofs.Numbers.{are_bytes}
+use Rattle.tp_turn.proofs.Lower.{network_made, are_bytes}
 use Rattle.tp_turn.proofs.Begun.{lone_begins, lone_is_network, lone_starts}
 use Rattle.tp_turn.proofs.lone.Lone.start.Goals as goal
 

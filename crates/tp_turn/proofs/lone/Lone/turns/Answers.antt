@@ -1,5 +1,5 @@
-use Rattle.std.proofs.Common.{◌+◌, ◌*◌, arith}
-use Rattle.std.specs.Prelude.{◌==◌, ◌%◌}
+use Rattle.std.proofs.Common.{◌+◌, ◌*◌, arith, ◌%◌}
+use Rattle.std.specs.Prelude.{◌==◌}
 use Rattle.tp_turn.specs.Lone.{lone_of}
 use Rattle.tp_turn.specs.TrialTurns.{IsTurnOf, AreTurns}
 use Rattle.tp_turn.specs.declared.take.TheConstants.{TURN_ENTRIES}

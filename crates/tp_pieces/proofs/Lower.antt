@@ -1,0 +1,54 @@
+-- What proofs here name of the crates below.
+pub use Rattle.rayon.specs.Lists.{filter_by_mask}
+pub use Rattle.std.proofs.Math.Nat.{div-le_of_le-mul, div-mul-le_self, mul-le-mul_right}
+pub use Rattle.std.proofs.lemmas.Bool.{and_from, and_parts, cases_Bool, cases_eq, cases_lt, false≢true, le-leb, le-ltb, leb-true, lt-leb, lt-ltb, ltb-true, true≢false}
+pub use Rattle.std.proofs.lemmas.List.{append_assoc, drop-drop, drop-map, drop_all, drop_more, get_or-map, get_or-replicate, get_or-take, get_or_append_left, get_or_at, get_or_default, get_or_past, length-map, length-replicate, length-take, length-take-le, map-append, map-set, map_more, map_push, set-append_left, set-append_right, set-get_or, set-set, set_past, take-append-drop, take-map, take-take, take_all, take_at, take_more}
+pub use Rattle.std.proofs.lemmas.Nat.{div_below, le-div}
+pub use Rattle.std.proofs.lemmas.Option.{get_or_from_slice_get, slice_get-get_or, slice_get-map, slice_get_past, slice_get_read, slice_get_within}
+pub use Rattle.std.proofs.lemmas.Result.{IfOk-weaker}
+pub use Rattle.std.specs.List.{AllZip, range_with_len, slice_get}
+pub use Rattle.std.specs.Option.{option_map}
+pub use Rattle.std.specs.Vec.{with_item}
+pub use Rattle.tp_model.specs.Entries.{acked, confirmed, first_only, handed_in, in_flight, of_node, port_took}
+unfoldable pub use Rattle.tp_model.specs.Entries.{acts, does, next, of_port, process, receives, takes}
+pub use Rattle.tp_model.specs.Network.{Machine, Network, OfHost, OfNode, Own, Port, has_wire, is_first, is_wired, on_line, process_at, receiver, ◌>>=◌}
+unfoldable pub use Rattle.tp_model.specs.Network.{own, pushed, put, sent, steps, taken}
+pub use Rattle.tp_model.specs.Node.{on_link, t414, t414_ends}
+unfoldable pub use Rattle.tp_model.specs.Node.{node_step, took}
+pub use Rattle.tp_model.specs.NodeState.{NodeState}
+unfoldable pub use Rattle.tp_model.specs.Order.{after}
+pub use Rattle.tp_model.specs.Sound.{owner}
+pub use Rattle.tp_model.specs.Turn.{by_line, by_link, comes_in, incoming}
+unfoldable pub use Rattle.tp_model.specs.Turn.{took_all, turned}
+pub use Rattle.tp_model.specs.declared.entry.Entry.{Entry}
+pub use Rattle.tp_model.specs.declared.entry.Entry.TheVariants.{Confirm, HostIn, Run, Take, Turn}
+pub use Rattle.tp_model.specs.declared.limits.TheConstants.{MAX_HELD, MAX_STEPS}
+pub use Rattle.tp_model.specs.declared.link.Received.{Received}
+pub use Rattle.tp_model.specs.declared.link.Token.{Token}
+pub use Rattle.tp_model.specs.declared.link.Token.TheVariants.{Ack, Data, Marker}
+pub use Rattle.tp_model.specs.declared.wire.WireEnd.{WireEnd}
+pub use Rattle.tp_model.specs.declared.wire.WireEnd.TheVariants.{Link, Port as AtPort}
+pub use Rattle.tp_law_machine.proofs.LinkLaws.{has_four_links, keeps_flight, never_marks}
+pub use Rattle.tp_law_machine.proofs.Nodes.{carries, node_steps, node_took}
+pub use Rattle.tp_law_network.proofs.ByItself.{node_there}
+pub use Rattle.tp_law_network.proofs.Lines.{cons_taken, for_line-elsewhere, for_line-here, on_sent_none, on_sent_open, on_set_other, on_set_same, same_lines, sent-append, sent_behind}
+pub use Rattle.tp_law_network.proofs.Local.{own-host, own-node, own_host, port_step, process_same, put-length, put-lines, sends_own, turn_step}
+pub use Rattle.tp_law_network.proofs.Partial.{bind_some, cond_some, map_some, slice_get-set_other, slice_get-set_same}
+pub use Rattle.tp_law_network.proofs.Reach.{after-same, after_by-goes, ends_agree, reach-goes, reach-stops, reach_most, reach_whole, whole_reach}
+pub use Rattle.tp_law_network.proofs.Reorder.{after_shape}
+pub use Rattle.tp_law_network.proofs.Steps.{Act, act_of, acts_from}
+pub use Rattle.tp_law_network.proofs.Stops.{least_stop}
+unfoldable pub use Rattle.tp_law_network.specs.InPiece.{next_in}
+pub use Rattle.tp_law_network.specs.Piece.{Agrees, Covers, Piece, sends}
+unfoldable pub use Rattle.tp_law_network.specs.Piece.{from_piece}
+unfoldable pub use Rattle.tp_law_network.specs.Reach.{after_by, reach}
+pub use Rattle.tp_law_network.specs.Readable.{bare}
+pub use Rattle.tp_law_network.specs.Stops.{IsLeastOf, IsOverfull, StopsAt}
+pub use Rattle.tp_node.proofs.Answered.{lacking_frozen, takes_err, takes_ok, why_fewer, why_most}
+pub use Rattle.tp_node.specs.NodeContents.{NodeContents}
+pub use Rattle.tp_book.proofs.Owns.{of_port-is, own_there}
+pub use Rattle.tp_book.proofs.Sending.{answer_on, pushed_open, pushed_shut, sends_on-tokens, wired_some}
+pub use Rattle.tp_book.specs.Counted.{AreCounted}
+pub use Rattle.tp_book.specs.Ports.{PortValue}
+pub use Rattle.tp_book.specs.Room.{from_line}
+pub use Rattle.tp_book.specs.Sends.{on_lines, sends_on}

@@ -1,0 +1,28 @@
+use Rattle.std.proofs.Common.{None, inr, refl, rules}
+use Rattle.tp_program.specs.Uses.HaveLooked.{None_yet, Then}
+use Rattle.tp_program.proofs.files.status_file.Goals as goal
+
+pub returns-in-Err-clause-used : goal.returns-in-Err-clause-used
+returns-in-Err-clause-used g c = record {
+  mid = g.S.Devices.uses c.args.devices.now;
+  between = g.O.Write.contents c.args.out.now;
+  before = None;
+  looks = None_yet;
+  ends = inr c.in-Err.ensures.refused;
+}
+
+pub looks-init : goal.looks-init
+looks-init g c = record {
+  uncalled = search rules;
+  some = refl;
+  looks = Then (g.S.Devices.uses c.args.devices.now) (g.S.Devices.uses c.look_file.new.devices) (g.O.Write.contents c.args.out.now) (g.O.Write.contents c.look_file.new.out)
+      None c.in-Ok.seen None_yet c.in-Ok.ensures.told;
+}
+
+pub looks-preserved : goal.looks-preserved
+looks-preserved g c = record {
+  uncalled = search rules;
+  some = refl;
+  looks = Then (g.S.Devices.uses c.looks.devices) (g.S.Devices.uses c.look_file-in-looks.new.devices) (g.O.Write.contents c.looks.out) (g.O.Write.contents c.look_file-in-looks.new.out)
+      c.looks.before c.in-Ok-look_file.seen c.looks.invariant.looks c.in-Ok-look_file.ensures.told;
+}

@@ -1,0 +1,24 @@
+use Rattle.std.proofs.Common.{rules, ◌≡◌, length, drop, Err, map, arith}
+use Rattle.tp_stream.proofs.FailedEnds.{with_inputs, with_outputs}
+use Rattle.tp_stream.proofs.Failures.{if_err}
+use Rattle.tp_stream.proofs.pumping.pump.Goals as goal
+
+pub returns-in_err-put-clause-ends : goal.returns-in_err-put-clause-ends
+returns-in_err-put-clause-ends g c =
+    let fault = c.in_err-put.field-0.0 in
+    let is : c.from_residual.result ≡ Err fault = search rules in
+    let inputs = map (λ i. i.port) c.args.streams.now.inputs.items in
+    let outputs = c.step_outputs.new.outputs in
+    let long : length outputs ≡ c.args.streams.now.outputs.len = omega (arith, c.step_outputs.auto.outputs, c.deref_mut.ensures.len) in
+    with_outputs c.from_residual.result c.args.streams.now.outputs.len outputs (drop (length outputs) c.args.streams.now.outputs.items) inputs long
+    (if_err c.from_residual.result fault _ is (c.in_err-put.ensures.ends inputs))
+
+pub returns-clause-ends : goal.returns-clause-ends
+returns-clause-ends g c =
+    let outputs = c.step_outputs.new.outputs in
+    let inputs = c.pump_inputs.new.inputs in
+    let long : length outputs ≡ c.args.streams.now.outputs.len = omega (arith, c.step_outputs.auto.outputs, c.deref_mut.ensures.len) in
+    let many : length inputs ≡ c.args.streams.now.inputs.len = omega (arith, c.pump_inputs.auto.inputs, c.deref_mut-2.ensures.len) in
+    with_inputs (λ i. i.port) c.pump_inputs.result c.args.streams.now.inputs.len _ inputs (drop (length inputs) c.args.streams.now.inputs.items) many
+    (with_outputs c.pump_inputs.result c.args.streams.now.outputs.len outputs (drop (length outputs) c.args.streams.now.outputs.items) (map (λ i. i.port) inputs) long
+    (c.pump_inputs.ensures.ends outputs))

@@ -1,0 +1,5 @@
+-- What proofs here name of the crates below.
+pub use Rattle.std.proofs.Math.Seq.{drop-append_seam, take-add}
+pub use Rattle.std.proofs.lemmas.Bool.{eqb-true}
+pub use Rattle.std.proofs.lemmas.List.{drop-drop, drop-take, drop_all, length-take-le, take-append-le, take-take, take_rest}
+pub use Rattle.std.specs.Io.KnownBytes.{Appends, Keeps}
