@@ -77,7 +77,10 @@ empty err
 there device
 
 story help
-# Asking is no fault: the answer comes on standard output, and names what is asked for.
+# Asking is no fault: the answer comes on standard output, and names what is asked for. The program names itself, though these stories call it other.
+tpnet run 2>err
+has err Usage: tpnet run
+has err other
 tpnet --help >out
 has out Usage: tpnet
 tpnet -h >out

@@ -15,7 +15,10 @@ use std::{fs, io};
 use tp_program::{FileDevices, answer_over};
 use tp_stream_files::Plain;
 
-/// A command as it was typed: its words, the program's name first, and the files that its streams are redirected to.
+/// What every command is called by: another name than the program's, which it names all the same where it tells how it is used.
+const CALLED: &str = "/opt/other";
+
+/// A command as it was typed: its words, after what it is called by, and the files that its streams are redirected to.
 #[derive(Drop)]
 struct Typed {
     words: Vec<String>,
@@ -49,7 +52,7 @@ impl Typed {
         Ok(())
     }
 
-    /// Reads the words after the program's name.
+    /// Reads the words after the name.
     fn read(alloc: Global, words: &str) -> io::Result<Typed> {
         let mut typed = Typed {
             words: Vec::new(alloc),
@@ -57,7 +60,7 @@ impl Typed {
             out: None,
             err: None,
         };
-        typed.take(alloc, "tpnet")?;
+        typed.take(alloc, CALLED)?;
         for word in words.split_whitespace() {
             typed.take(alloc, word)?;
         }

@@ -1,8 +1,8 @@
 //! Devices that are opened each node by itself, by several workers, and in one thread: both calls agree.
 
+use crate::crowd::Crowd;
 use crate::devices::{Held, disk_of, formatted, held_after, is_same};
 use crate::opened_books::grown;
-use crate::watched::Watch;
 use std::alloc::Global;
 use std::process::Abort;
 use std::thread::Threads;
@@ -346,23 +346,28 @@ fn two_nodes_each_by_itself(rt: HostRuntime) {
     play(&rt, rt.alloc(), pair(rt.alloc()), TWO);
 }
 
-/// Whether the device of two nodes opens by two workers, with what is told the gate.
-fn opens_at<R: Threads + Sync>(rt: &R, alloc: Global, gate: &Watch) -> bool {
-    match pair(alloc) {
-        Some(bytes) => {
-            let mut disk = MemDisk::of_bytes(bytes);
-            let opened = open_parallel(alloc, &mut disk, 2, gate, rt);
-            opened.is_ok()
-        }
-        None => false,
-    }
+/// Six nodes, none of which is wired to another one.
+const SIX: &[u8] =
+    b"node a 4\nnode b 4\nnode c 4\nnode d 4\nnode e 4\nnode f 4\nport h\nwire a.0 h\n";
+
+/// Whether a device opens by as many workers as it has nodes, and their pieces, and no other one, meet at the gate as they begin, each with its node.
+fn meet<R: Threads + Sync>(rt: &R, alloc: Global, device: Option<Vec<u8>>, nodes: u8) -> bool {
+    let Some(bytes) = device else {
+        return false;
+    };
+    let gate = Crowd::new(u32::from(nodes));
+    let mut disk = MemDisk::of_bytes(bytes);
+    let is_open = open_parallel(alloc, &mut disk, nodes.clamp(1, 64), &gate, rt).is_ok();
+    let count = u32::from(nodes);
+    let all = 1u32.wrapping_shl(count).wrapping_sub(1);
+    is_open && gate.counts() == (count, count, all)
 }
 
-/// The pieces of both nodes meet at the gate as they begin, and no other one comes there. In one thread the first would look for the
-/// second in vain.
+/// In one thread the first piece would look for the second in vain, and in two threads the first pair of six for the others.
 #[test]
-fn both_pieces_meet_at_the_gate(rt: HostRuntime) {
-    let gate = Watch::new(2, 0);
-    let is_open = opens_at(&rt, rt.alloc(), &gate);
-    assert!(rt; is_open && gate.counts() == [2, 2, 1, 1, 0, 0, 0, 0]);
+fn all_pieces_meet_at_the_gate(rt: HostRuntime) {
+    let two = pair(rt.alloc());
+    assert!(rt; meet(&rt, rt.alloc(), two, 2));
+    let six = formatted(rt.alloc(), SIX, 6, NARROW_HEAD_BYTES, PAIR_AREA);
+    assert!(rt; meet(&rt, rt.alloc(), six, 6));
 }

@@ -1,5 +1,5 @@
-//! Tests of what is stored: topology texts, entries and groups as bytes, a book's calls for the host, parts of a network; and devices in memory that
-//! are formatted, written and opened. They are worked examples and values computed by hand. They say what no proof can: that the definitions mean
+//! Tests of what is stored: topology texts, entries and groups as bytes, a book's calls for the host; and devices in memory that are formatted,
+//! written and opened. They are worked examples and values computed by hand. They say what no proof can: that the definitions mean
 //! what was meant.
 #![tactic(auto)]
 
@@ -31,11 +31,8 @@ mod format_faults;
 mod forms;
 #[cfg(test)]
 mod groups;
-mod halted;
 #[cfg(test)]
 mod heads;
-#[cfg(test)]
-mod host;
 #[cfg(test)]
 mod host_calls;
 #[cfg(test)]
@@ -43,33 +40,17 @@ mod kept;
 #[cfg(test)]
 mod letters;
 #[cfg(test)]
-mod member;
-#[cfg(test)]
-mod node;
-#[cfg(test)]
 mod opened_books;
 pub mod possible;
 #[cfg(test)]
 mod reserve;
 #[cfg(test)]
-mod side;
-#[cfg(test)]
-mod stops;
-#[cfg(test)]
 mod stories;
 #[cfg(test)]
 mod sweeps;
-#[cfg(test)]
-mod threads;
 #[cfg(test)]
 mod topologies;
 #[cfg(test)]
 mod topology_faults;
 #[cfg(test)]
-mod watched;
-#[cfg(test)]
-mod whole;
-#[cfg(test)]
 mod wide;
-
-pub use halted::{HaltedNode, Host, Member, Side};

@@ -1,8 +1,13 @@
-//! Runs and streams over devices in memory, as the program makes them, with devices, outputs, sinks and sources that fail.
+//! Runs and streams over devices in memory, as the program makes them, with devices, outputs, sinks and sources that fail; and commands on a device
+//! that another process writes meanwhile.
 #![tactic(auto)]
 
 #[cfg(test)]
 mod asked;
+#[cfg(test)]
+mod backups;
+#[cfg(test)]
+mod changing;
 #[cfg(test)]
 mod checkpoints;
 #[cfg(test)]
@@ -24,6 +29,8 @@ mod frames;
 #[cfg(test)]
 mod full;
 #[cfg(test)]
+mod growth;
+#[cfg(test)]
 mod opened;
 #[cfg(test)]
 mod outputs;
@@ -40,7 +47,11 @@ mod run_rows;
 #[cfg(test)]
 mod runs;
 #[cfg(test)]
+mod said;
+#[cfg(test)]
 mod shifts;
+#[cfg(test)]
+mod steady;
 #[cfg(test)]
 mod steps;
 #[cfg(test)]

@@ -279,13 +279,12 @@ fn an_outlet_that_failed_is_not_called_again(rt: HostRuntime) -> Result<(), Fail
 }
 
 /// Whether a run on the device of a node that echoes ends with that fault, or with none, once a writer took these bytes. Its first `failed` writes
-/// fail with this error, and each other one takes a byte.
+/// fail with this error, and each other one takes `most` bytes.
 fn writes_so<R: Threads + Wait + Abort + Sync>(
     rt: &R,
     alloc: Global,
     disk: &mut MemDisk,
-    failed: u32,
-    how: ErrorKind,
+    (failed, how, most): (u32, ErrorKind, usize),
     fault: Option<RunFault>,
     taken: &[u8],
 ) -> bool {
@@ -293,27 +292,24 @@ fn writes_so<R: Threads + Wait + Abort + Sync>(
         bytes: Vec::new(alloc),
         failed,
         how,
-        most: 1,
+        most,
     };
     let done = run_on(rt, alloc, ECHOES, disk, b"abc", &mut taker);
     done.err() == fault && taker.bytes.as_slice() == taken
 }
 
+/// A writer that fails, or takes nothing, ends the run, and the next one prints all.
 #[test]
 fn a_writer_that_is_interrupted_is_called_again(rt: HostRuntime) -> Result<(), Fail> {
     let alloc = rt.alloc();
     let mut disk = MemDisk::of_bytes(formatted(alloc, ONE, ECHO, 16_384)?);
     let failed = Some(RunFault::OutputFailed);
-    let has_failed = writes_so(&rt, alloc, &mut disk, 1, ErrorKind::WouldBlock, failed, b"");
-    let told = writes_so(
-        &rt,
-        alloc,
-        &mut disk,
-        3,
-        ErrorKind::Interrupted,
-        None,
-        b"abc",
-    );
-    assert!(rt; has_failed && told);
+    for how in [(1, ErrorKind::WouldBlock, 1), (0, ErrorKind::WouldBlock, 0)] {
+        let has_failed = writes_so(&rt, alloc, &mut disk, how, failed, b"");
+        assert!(rt; has_failed);
+    }
+    let interrupted = (3, ErrorKind::Interrupted, 1);
+    let told = writes_so(&rt, alloc, &mut disk, interrupted, None, b"abc");
+    assert!(rt; told);
     Ok(())
 }

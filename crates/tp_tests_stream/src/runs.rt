@@ -1,8 +1,7 @@
 //! Runs on a device in memory, and what is on the device then.
 
 ghost use Rattle.std.specs.Prelude.{◌<◌, ◌≤◌};
-ghost use Rattle.tp_model.specs.declared.limits.TheConstants.{MAX_STEPS};
-ghost use Rattle.tp_work.specs.declared.start.TheConstants.{MAX_WORKERS};
+ghost use Rattle.tp_tests_stream.specs.Lower.{MAX_STEPS, MAX_WORKERS};
 
 use crate::devices::{ONE, formatted};
 use crate::players::{Left, look_at};

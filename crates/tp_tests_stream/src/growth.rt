@@ -1,13 +1,13 @@
 //! Devices that grow: what is appended to them, and when they are read meanwhile.
 
 use crate::changing::Changing;
-use crate::format_tests::format_one;
 use std::alloc::{AllocError, Global};
 use std::sync::Wait;
 use tp_disk::Counted;
 use tp_model::limits::{GATE_CLOSED, GATE_OPEN, MAX_GROUP};
-use tp_program::compact_on;
-use tp_tests_fixtures::{AREA, SIZE};
+use tp_net::Topology;
+use tp_program::{compact_on, format_on};
+use tp_tests_fixtures::{AREA, ONE_NODE, SIZE, letter};
 
 /// What is after the gate of a group of the node's first turns and the host's: a run of 3 steps, the letter, its acknowledge, and a
 /// run of 16 steps.
@@ -95,11 +95,37 @@ pub(crate) const LONG: Growth = Growth {
     paces: &[(4, usize::MAX), (5, usize::MAX)],
 };
 
-/// Formats a device. Answers the status.
+/// What no command answers: there is no memory for the network.
+const NONE: u8 = 9;
+
+/// The image of a node that sends a letter.
+fn images(alloc: Global) -> Option<Vec<Vec<u8>>> {
+    match letter(alloc) {
+        Ok(image) => Vec::from_array(alloc, [image]).ok(),
+        Err(_) => None,
+    }
+}
+
+/// Formats a device for that node and a port. Answers the status.
 fn format_over(alloc: Global, changing: &mut Changing, area: u64) -> u8 {
     let mut disk = Counted::new(changing.disk());
     let (mut out, mut err) = (Vec::new(alloc), Vec::new(alloc));
-    format_one(alloc, &mut disk, 1, area, &mut out, &mut err)
+    let Ok(topology) = Topology::read(alloc, ONE_NODE) else {
+        return NONE;
+    };
+    let _rules = topology.pages();
+    match images(alloc) {
+        Some(images) => format_on(
+            alloc,
+            &mut disk,
+            &topology,
+            &images,
+            Some(area),
+            &mut out,
+            &mut err,
+        ),
+        None => NONE,
+    }
 }
 
 /// A device of `size` bytes with areas of `area` bytes, as it is formatted; none if there is no memory.

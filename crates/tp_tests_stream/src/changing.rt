@@ -1,8 +1,8 @@
 //! A device that another process writes while it is read.
 
 ghost use Rattle.std.specs.Prelude.{◌≡◌, ◌+◌, ◌≤◌, length, take, drop, OnOk, OnErr};
-ghost use Rattle.tp_tests_program.specs.Lower.{Write, Sync, Read, done, MomentPassed, Fails, unknown};
-ghost use Rattle.tp_tests_program.specs.Changing.{changing_keeps, no_changing};
+ghost use Rattle.tp_tests_stream.specs.Lower.{Write, Sync, Read, done, MomentPassed, Fails, unknown};
+ghost use Rattle.tp_tests_stream.specs.Changing.{changing_keeps, no_changing};
 
 use std::alloc::{AllocError, Global};
 use tp_disk::{DeviceFailed, RawDisk};
