@@ -16,7 +16,11 @@ mod copies;
 #[cfg(test)]
 mod crowd;
 #[cfg(test)]
+mod deeds;
+#[cfg(test)]
 mod devices;
+#[cfg(test)]
+mod drawn;
 #[cfg(test)]
 mod entries;
 #[cfg(test)]
@@ -40,17 +44,35 @@ mod kept;
 #[cfg(test)]
 mod letters;
 #[cfg(test)]
+mod machines;
+#[cfg(test)]
+mod network;
+#[cfg(test)]
+mod numbers;
+#[cfg(test)]
 mod opened_books;
 pub mod possible;
 #[cfg(test)]
+mod replayed;
+#[cfg(test)]
 mod reserve;
+#[cfg(test)]
+mod snapshots;
 #[cfg(test)]
 mod stories;
 #[cfg(test)]
 mod sweeps;
 #[cfg(test)]
+mod tokens;
+#[cfg(test)]
 mod topologies;
 #[cfg(test)]
 mod topology_faults;
+#[cfg(test)]
+mod turn_stories;
+#[cfg(test)]
+mod two_nodes;
+#[cfg(test)]
+mod whole_turns;
 #[cfg(test)]
 mod wide;

@@ -1,5 +1,0 @@
-use Rattle.std.proofs.Common.{refl}
-use Rattle.tp_tests_turns.proofs.checkpoint.checkpoint_of_pair.Goals as goal
-
-pub checkpoint_of_parts-requires-clause-names : goal.checkpoint_of_parts-requires-clause-names
-checkpoint_of_parts-requires-clause-names g c = record { roll_is = refl; first_is = refl; wires_are = refl; count_is = refl; ports_are = refl; nodes_are = λ i. refl; mark_is = refl; flusher_is = refl; sights_is = refl; room_is = refl }

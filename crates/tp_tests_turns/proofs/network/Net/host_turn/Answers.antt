@@ -1,5 +1,0 @@
-use Rattle.tp_tests_turns.proofs.Netting.{hosted}
-use Rattle.tp_tests_turns.proofs.network.Net.host_turn.Goals as goal
-
-pub invariant_of-self : goal.invariant_of-self
-invariant_of-self c = hosted c.host_turn.ensures.acts c.self.inside.book c.host_turn.new.book c.known.ensures.keeps c.host_turn.ensures.added c.self.inside.seats.items c.self.invariant

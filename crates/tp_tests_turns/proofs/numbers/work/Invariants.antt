@@ -1,5 +1,0 @@
-use Rattle.std.proofs.Common.{◌≡◌, ◌≤◌, Some}
-use Rattle.tp_tests_turns.proofs.numbers.work.Given as goal
-
-abbrev pub invariant-loop : goal.invariant-loop
-invariant-loop g l = (l.hand.of ≡ Some l.queue) × (l.made ≤ l.counter)

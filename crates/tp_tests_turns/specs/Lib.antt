@@ -1,3 +1,0 @@
-pub mod Lower
-pub mod Nets
-pub mod SharedPair
