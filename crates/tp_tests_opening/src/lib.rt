@@ -1,5 +1,6 @@
 //! Tests of what is stored: topology texts, entries and groups as bytes, a book's calls for the host; and devices in memory that are formatted,
-//! written and opened. They are worked examples and values computed by hand. They say what no proof can: that the definitions mean
+//! written and opened. And of turns on whole networks in memory, in one thread: that they take and close as many as they may, and that snapshots come
+//! to their end. They are worked examples and values computed by hand. They say what no proof can: that the definitions mean
 //! what was meant.
 #![tactic(auto)]
 
