@@ -1,6 +1,6 @@
 #!/usr/bin/env python3
 """How many orders of acts two nodes and the host have up to a whole cut, and how many where turns stay open while others act, over the trim: a
-second opinion on bench/orders/orders.rattle.
+second opinion on bench/outside/tp_tests_opening/orders.rattle.
 
 usage: bench/orders.py     prints the orders of their cases, counted over a plain model that knows no book
 """

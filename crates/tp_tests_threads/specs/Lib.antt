@@ -1,4 +1,3 @@
 pub mod Lower
 pub mod Spelt
 pub mod Unkind
-pub mod Usable

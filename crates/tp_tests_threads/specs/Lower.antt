@@ -2,21 +2,13 @@
 pub use Rattle.std.specs.List.{AllByRecursion}
 pub use Rattle.tp_model.specs.Disk.{Read, Sync, Write, done}
 pub use Rattle.tp_model.specs.DiskHistory.{Fails, IsSynced, MomentPassed, unknown}
-unfoldable pub use Rattle.tp_model.specs.Image.{node_at}
 pub use Rattle.tp_model.specs.Journal.{is_roomy, room}
-pub use Rattle.tp_model.specs.Network.{Network}
 pub use Rattle.tp_model.specs.Node.{t414_ends}
-pub use Rattle.tp_model.specs.NodeState.{NodeState}
 pub use Rattle.tp_model.specs.Opening.{Opened}
 unfoldable pub use Rattle.tp_model.specs.Opening.{verdict}
 pub use Rattle.tp_model.specs.Spelling.{IsCut}
 pub use Rattle.tp_model.specs.declared.limits.TheConstants.{MAX_STEPS}
 pub use Rattle.tp_law_machine.specs.NodeOfBytes.{IsNodeOfBytes}
-pub use Rattle.tp_book.specs.Book.{BookValue}
-pub use Rattle.tp_book.specs.Opened.{IsWellOpen}
-pub use Rattle.tp_book.specs.Parts.{network_made}
-pub use Rattle.tp_book.specs.Start.{IsFresh}
-pub use Rattle.tp_turn.specs.Tried.{lone_network}
 pub use Rattle.tp_area.specs.Places.{place_at}
 pub use Rattle.tp_shared.specs.Named.{Names}
 pub use Rattle.tp_work.specs.declared.start.TheConstants.{MAX_SEATS}

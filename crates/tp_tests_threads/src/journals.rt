@@ -1,8 +1,8 @@
 //! What the script journals, over a device whose areas have turns, and over one whose first area has none.
 
 use crate::acts::{run, turn};
-use crate::copied::fresh;
 use crate::desk::Done;
+use crate::fresh::fresh;
 use crate::remains::{kept, recovered, untold};
 use crate::stops::is_last;
 use crate::stories::SCRIPT;

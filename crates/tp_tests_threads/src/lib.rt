@@ -1,6 +1,6 @@
-//! Networks in threads, of devices that opened: calls one by one, those that run out of memory and are made again, those of a worker and a host, and
-//! copies of devices; threads that a gate holds at a point of a turn, beside others that go on; and scripts, act by act in one thread, over devices
-//! that are stopped or fail at each of their calls.
+//! Networks in threads, of devices that opened: calls that run out of memory and are made again, and those of a worker and a host; threads that a gate
+//! holds at a point of a turn, beside others that go on; and scripts, act by act in one thread, over devices that are stopped or fail at each of their
+//! calls.
 #![tactic(auto)]
 
 #[cfg(test)]
@@ -10,21 +10,13 @@ mod alone;
 #[cfg(test)]
 mod beside;
 #[cfg(test)]
-mod book_calls;
-#[cfg(test)]
-mod books;
-#[cfg(test)]
 mod checkpoints;
-#[cfg(test)]
-mod copied;
-#[cfg(test)]
-mod copying;
 #[cfg(test)]
 mod desk;
 #[cfg(test)]
-mod devices;
-#[cfg(test)]
 mod flushing;
+#[cfg(test)]
+mod fresh;
 #[cfg(test)]
 mod hold;
 #[cfg(test)]
@@ -36,15 +28,9 @@ mod left;
 #[cfg(test)]
 mod limits;
 #[cfg(test)]
-mod machines;
-#[cfg(test)]
 mod many;
 #[cfg(test)]
 mod meanwhile;
-#[cfg(test)]
-mod networks;
-#[cfg(test)]
-mod opened;
 #[cfg(test)]
 mod opening;
 #[cfg(test)]
@@ -71,10 +57,6 @@ mod team;
 mod teams;
 #[cfg(test)]
 mod tears;
-#[cfg(test)]
-mod topologies;
-#[cfg(test)]
-mod trials;
 #[cfg(test)]
 mod trimmed;
 #[cfg(test)]

@@ -2,8 +2,8 @@
 
 use crate::acts::Act::{Begin, Book, Flush, Turns};
 use crate::acts::Story;
-use crate::copied::opened;
 use crate::desk::Done;
+use crate::fresh::opened;
 use crate::small::{Network, ONE, Program};
 use crate::stories::NOTHING_WRITTEN;
 use crate::worked::played;

@@ -1,8 +1,8 @@
 //! A script whose device fails, or stops it, at each of its calls: what the device then opens to, and how it goes on.
 
 use crate::acts::{Story, run};
-use crate::copied::{fresh, opened};
 use crate::desk::{Done, Left};
+use crate::fresh::{fresh, opened};
 use crate::remains::{calls_of, ended, kept, known, recovered, untold};
 use crate::stories::{CHECKPOINT, GOES_ON, SCRIPT};
 use crate::tears::{EACH, SOME, Tear, fault_at, fault_of};

@@ -1,4 +1,4 @@
-//! A device in memory that is as unkind as the disk model allows, or that another process writes.
+//! A device in memory that is as unkind as the disk model allows.
 
 ghost use Rattle.std.specs.Prelude.{◌≡◌, ◌+◌, ◌≤◌, length, take, drop, OnOk, OnErr};
 ghost use Rattle.tp_tests_threads.specs.Lower.{Write, Sync, Read, done, MomentPassed, Fails, unknown};
@@ -39,17 +39,12 @@ impl Torn {
     }
 }
 
-/// Bytes at their places.
-pub(crate) type Pieces = &'static [(usize, &'static [u8])];
-
-/// How a call ends: the run stops before it, or within it; it fails and later calls are made; or another process writes pieces before it, and it is
-/// done.
+/// How a call ends: the run stops before it, or within it; or it fails and later calls are made.
 #[derive(Clone, Copy)]
 pub(crate) enum Ending {
     Before,
     Within,
     Fails,
-    Written(Pieces),
 }
 
 /// The call of a number ends so. If it ends badly, the range that was written last is torn in one way, and all others that aren't
@@ -107,13 +102,6 @@ fn put(bytes: &mut [u8], at: usize, piece: &[u8]) {
     place(&mut bytes[start..], 0, piece);
 }
 
-/// Puts pieces at their places, one after another.
-fn put_all(bytes: &mut [u8], pieces: Pieces) {
-    for (at, piece) in pieces {
-        put(bytes, *at, piece);
-    }
-}
-
 /// Puts the bytes of a range over others.
 fn put_range(synced: &mut [u8], bytes: &[u8], range: (usize, usize)) {
     let start = range.0.min(bytes.len());
@@ -165,15 +153,11 @@ impl RawUnkind {
         }
     }
 
-    /// What the call of a fault comes to. What another process writes before it is written.
+    /// What the call of a fault comes to.
     fn come_to(&mut self, fault: Fault) -> Came
         ensures { self.new.size ≡ self.old.size }
     {
         match fault.ending {
-            Ending::Written(pieces) => {
-                put_all(&mut self.bytes, pieces);
-                return Came::Done;
-            }
             Ending::Fails => {}
             Ending::Before | Ending::Within => self.stopped = true,
         }
