@@ -1,6 +1,5 @@
 pub mod Lower
 pub mod EachPasses
-pub mod Lone
 pub mod Netting
 pub mod Numbered
 pub mod Spelt

@@ -1,5 +1,5 @@
 pub mod Lower
 pub mod CanCount
-pub mod Lone
 pub mod Nets
 pub mod TailOf
+pub mod Usable

@@ -1,6 +1,6 @@
 //! The host's calls of a book with one port.
 
-ghost use Rattle.tp_tests_opening.specs.Lone.{IsUsable};
+ghost use Rattle.tp_tests_opening.specs.Usable.{IsUsable};
 
 use tp_book::{Book, Refusal};
 

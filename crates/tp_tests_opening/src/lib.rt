@@ -1,4 +1,4 @@
-//! Tests of what is stored: topology texts, entries and groups as bytes, a book's calls for the host; and devices in memory that are formatted,
+//! Tests of what is stored: topology texts, entries and groups as bytes, books of devices; and devices in memory that are formatted,
 //! written and opened. And of turns on whole networks in memory, in one thread: that they take and close as many as they may, and that snapshots come
 //! to their end. They are worked examples and values computed by hand. They say what no proof can: that the definitions mean
 //! what was meant.
@@ -29,8 +29,6 @@ mod faults;
 #[cfg(test)]
 mod filled_areas;
 #[cfg(test)]
-mod fixture;
-#[cfg(test)]
 mod format_faults;
 #[cfg(test)]
 mod forms;
@@ -38,8 +36,6 @@ mod forms;
 mod groups;
 #[cfg(test)]
 mod heads;
-#[cfg(test)]
-mod host_calls;
 #[cfg(test)]
 mod kept;
 #[cfg(test)]

@@ -2,7 +2,7 @@
 
 ghost use Rattle.std.specs.Prelude.{IfSome};
 ghost use Rattle.tp_book.specs.Opened.{IsWellOpen};
-ghost use Rattle.tp_tests_opening.specs.Lone.{IsUsable};
+ghost use Rattle.tp_tests_opening.specs.Usable.{IsUsable};
 
 use crate::calls::{hand_in, is_shown};
 use crate::devices::{fresh, opened_of};

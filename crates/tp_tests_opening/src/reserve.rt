@@ -3,7 +3,7 @@
 
 ghost use Rattle.std.specs.Prelude.{◌≡◌, ◌<◌, length, true};
 ghost use Rattle.tp_book.specs.Marked.{taker_of};
-ghost use Rattle.tp_tests_opening.specs.Lone.{IsUsable};
+ghost use Rattle.tp_tests_opening.specs.Usable.{IsUsable};
 
 use crate::calls::hand_in;
 use crate::devices::fresh;

@@ -10,7 +10,6 @@ use std::marker::Brand;
 use std::sync::Wait;
 use std::test::Fail;
 use tp_disk::MemDisk;
-use tp_ready::Mark;
 use tp_shared::{Naming, NoGate, Parts};
 use tp_work::{Net, Seat, Turn};
 
@@ -135,19 +134,6 @@ fn begins<R: Wait>(rt: &R, alloc: Global, quantum: u16, seats: u8) -> Result<boo
 fn networks_begin_with_the_least_and_the_most(rt: HostRuntime) -> Result<(), Fail> {
     for (quantum, seats) in STARTS {
         assert!(rt; begins(&rt, rt.alloc(), *quantum, *seats)?);
-    }
-    Ok(())
-}
-
-#[test]
-fn a_mark_gives_as_many_passes_as_are_asked_for(rt: HostRuntime) -> Result<(), Fail> {
-    for count in [0, 1, 32, 33, 255] {
-        let (mark, mut raiser, mut passes) = Mark::start(rt.alloc(), 7, count)?;
-        assert!(rt; passes.len() == count as usize);
-        mark.raise(&mut raiser, 9, &MemDisk::of_bytes(Vec::new(rt.alloc())));
-        for pass in &mut passes {
-            assert!(rt; pass.seen() == 7 && mark.load(pass) == 9);
-        }
     }
     Ok(())
 }

@@ -1,4 +1,4 @@
-use Rattle.tp_tests_opening.specs.Lone.{IsUsable}
+use Rattle.tp_tests_opening.specs.Usable.{IsUsable}
 use Rattle.tp_tests_opening.proofs.opened_books.takes.Given as goal
 
 -- the book can be used

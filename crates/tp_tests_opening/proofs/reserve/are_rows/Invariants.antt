@@ -1,4 +1,4 @@
-use Rattle.tp_tests_opening.specs.Lone.{IsUsable}
+use Rattle.tp_tests_opening.specs.Usable.{IsUsable}
 use Rattle.tp_tests_opening.proofs.reserve.are_rows.Given as goal
 
 -- the book can be used

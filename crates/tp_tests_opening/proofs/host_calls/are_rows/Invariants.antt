@@ -1,6 +1,0 @@
-use Rattle.tp_tests_opening.specs.Lone.{IsUsable}
-use Rattle.tp_tests_opening.proofs.host_calls.are_rows.Given as goal
-
--- the book can be used
-abbrev pub invariant-loop-row : goal.invariant-loop-row
-invariant-loop-row l = IsUsable l.book
