@@ -15,7 +15,7 @@ use std::{fs, io};
 use tp_program::{FileDevices, answer_over};
 use tp_stream_files::Plain;
 
-/// What every command is called by: another name than the program's, which it names all the same where it tells how it is used.
+/// What every command is called by. It isn't the program's name, by which a command still speaks of itself.
 const CALLED: &str = "/opt/other";
 
 /// A command as it was typed: its words, after what it is called by, and the files that its streams are redirected to.
