@@ -346,7 +346,7 @@ fn two_nodes_each_by_itself(rt: HostRuntime) {
     play(&rt, rt.alloc(), pair(rt.alloc()), TWO);
 }
 
-/// Six nodes, none of which is wired to another one.
+/// Six nodes without a wire between them.
 const SIX: &[u8] =
     b"node a 4\nnode b 4\nnode c 4\nnode d 4\nnode e 4\nnode f 4\nport h\nwire a.0 h\n";
 
