@@ -1,0 +1,18 @@
+use Rattle.std.proofs.Common.{ℕ, List, [], ◌++◌, rules}
+use contract.BorrowLft.{◌⊑◌, ⊑_meet, ⊑_refl, ⊑_static}
+use denote.Param.Send.{sendable}
+use Rattle.tpnet.proofs.main.Goals as goal
+
+itself : (κ : List ℕ) → κ ⊑ (κ ++ []) ++ []
+itself κ = ⊑_meet κ _ _ (⊑_meet κ _ _ (⊑_refl κ) (⊑_static κ)) (⊑_static κ)
+
+-- what is lent outlives the call: the system, the locks, and what both are lent for
+pub answer_over-status-requires : goal.answer_over-status-requires
+answer_over-status-requires g c κs within =
+    let κ = κs.1.1.1.1.1.1.1.1.1.1.0 in
+    let none : κ ⊑ [] = ⊑_static κ in
+    let files = ⊑_meet κ _ _ (⊑_meet κ _ _ within.1.0 none) none in
+    let locks = ⊑_meet κ _ _ (⊑_meet κ _ _ (⊑_meet κ _ _ within.1.1.0 none) none) none in
+    let given = ⊑_meet κ _ _ files locks in
+    let devices = ⊑_meet κ _ _ given (⊑_meet κ _ _ (⊑_meet κ _ _ within.0 files) locks) in
+    (itself κs.1.1.1.1.1.1.1.1.0, (⊑_static κs.1.1.1.1.1.1.1.1.1.0, (devices, (⊑_static κs.1.1.1.1.1.1.1.1.1.1.1.0, (⊑_static κs.1.1.1.1.1.1.1.1.1.1.1.1.0, (itself κs.1.1.1.1.1.1.1.1.1.1.1.1.1.0, (⊑_static κs.1.1.1.1.1.1.1.1.1.1.1.1.1.1.0, (itself κs.1.1.1.1.1.1.1.1.1.1.1.1.1.1.1.0, (⊑_static κs.1.1.1.1.1.1.1.1.1.1.1.1.1.1.1.1.0, (itself κs.1.1.1.1.1.1.1.1.1.1.1.1.1.1.1.1.1.0, (⊑_static κs.1.1.1.1.1.1.1.1.1.1.1.1.1.1.1.1.1.1.0, (search (rules, sendable), (search (rules, sendable), search (rules, sendable))))))))))))))
