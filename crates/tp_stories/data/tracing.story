@@ -112,6 +112,10 @@ tpnet trace a.img --map a.map --until send
 tpnet trace a.img --until start
 tpnet trace a.img --watch 8000010
 tpnet trace a.img --map a.map --watch Start
+# What is watched begins below memory: the last address before it, and its first one.
+tpnet trace a.img --watch 7FFFFFFF --bytes 2
+tpnet try a.img --watch 7FFFFFFF
+tpnet trace a.img --watch 80000000 --bytes 1 --steps 1
 tpnet trace a.img --until ''
 # A map with a line that is none of one, and files that aren't there.
 text bad.map 80000100 start a.asm:3\n80000104 x\n

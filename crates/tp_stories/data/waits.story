@@ -30,16 +30,16 @@ image g.img 24 F3 24 F2 54 41 24 F8 24 F4
 tpnet format device net.txt .
 tpnet run device --turns 16 --workers 1 --port 1 2>err
 tpnet waits device >early
-has early node 0 out 0 sends left 1 process 80000201 at 80000105 to port 0: under way\n
+has early node 0 out 0 sends left 1 since 8 process 80000201 at 80000105 to port 0: under way\n
 tpnet run device --turns 40000 --workers 1 --port 1 2>err
 tpnet waits device >out
-has out node 0 out 0 sends left 1 process 80000201 at 80000105 to port 0: full\n
-has out node 1 in 0 inputs left 1 process 80000201 at 80000106 from port 1: no input\n
-has out node 2 in 3 inputs left 1 process 80000201 at 80000106 from nobody: no wire\n
+has out node 0 out 0 sends left 1 since 8198 process 80000201 at 80000105 to port 0: full\n
+has out node 1 in 0 inputs left 1 since 1 process 80000201 at 80000106 from port 1: no input\n
+has out node 2 in 3 inputs left 1 since 2 process 80000201 at 80000106 from nobody: no wire\n
 has out \nnode 3 halted 2 UnknownOp at 80000100 last 
-has out node 4 in 0 inputs left 1 process 80000201 at 80000106 from node 3 link 0: halted\n
-has out node 5 in 0 inputs left 1 process 80000201 at 80000106 from node 4 link 1: waits elsewhere\n
-has out node 6 in 0 chooses left 0 process 80000201 at 8000010A from node 5 link 1: waits elsewhere\n
+has out node 4 in 0 inputs left 1 since 4 process 80000201 at 80000106 from node 3 link 0: halted\n
+has out node 5 in 0 inputs left 1 since 5 process 80000201 at 80000106 from node 4 link 1: waits elsewhere\n
+has out node 6 in 0 chooses left 0 since 6 process 80000201 at 8000010A from node 5 link 1: waits elsewhere\n
 ends out waits elsewhere\nfull: node 0 link 0 waits for port 0\nno input: node 1 link 0 waits for port 1\nno wire: node 2 link 3 waits for nobody\nhalted: node 4 link 0 waits for node 3 link 0\n
 tpnet waits device --json >json
 has json {"node":3,"does":"halted","fault":"UnknownOp","at":2147483904,"last":
@@ -54,6 +54,33 @@ image b.img 11 24 F2 51 41 FB 11 24 F2 54 41 F7
 image c.img 11 24 F2 51 41 FB 11 24 F2 54 41 F7
 tpnet format device net.txt . 65536
 tpnet run device --turns 16 --workers 1
+tpnet waits device
+
+story since
+# Node 0 inputs three bytes; node 1 inputs one byte, again and again. A byte that comes in leaves node 0 in its wait. It ends the one of node 1, which then
+# begins an equal one. After a checkpoint each wait is older than all entries; it stays so while bytes of its message come in.
+text net.txt node a 4\nnode b 4\nport h\nport k\nwire a.0 h\nwire b.0 k\n
+image a.img 11 24 F2 54 43 F7 21 F5
+image b.img 11 24 F2 54 41 F7 60 08
+tpnet format device net.txt . 65536
+tpnet run device --turns 2 --workers 1 2>err
+tpnet waits device
+text in z
+text more xy
+tpnet run device --turns 0 --in in 2>err
+tpnet run device --turns 0 --in more --port 1 2>err
+tpnet run device --turns 4 --workers 1 2>err
+tpnet journal device --from 5
+tpnet waits device
+tpnet run device --turns 4 --workers 1 2>err
+tpnet waits device
+tpnet compact device
+tpnet waits device
+tpnet waits device --json
+text in zq
+tpnet run device --turns 0 --in in 2>err
+tpnet run device --turns 2 --workers 1 2>err
+tpnet journal device
 tpnet waits device
 
 story parity
@@ -130,7 +157,7 @@ tpnet format device net.txt . 1409782
 tpnet run device --turns 20000 --workers 1 2>err
 tpnet waits device >out
 ends out waits elsewhere\nboth send: node 16 link 1 waits for node 17 link 0\ncycle: nodes 16 17\n
-has out node 17 out 0 sends left 1 process 80000201 at 80000106 to node 16 link 1: both send\n
+has out node 17 out 0 sends left 1 since 17 process 80000201 at 80000106 to node 16 link 1: both send\n
 folder maps
 text maps/all.map 80000100 right even.asm:3\n80000100 - even.asm:3\n80000101 - even.asm:4\n80000103 - even.asm:5\n80000104 - even.asm:6\n80000105 - even.asm:7\n80000106 - even.asm:8\n80000107 - even.asm:9\n80000109 - even.asm:10\n8000010A - even.asm:11\n8000010B - even.asm:12\n8000010C left even.asm:13\n8000010C - even.asm:13\n8000010D - even.asm:14\n8000010F - even.asm:15\n80000110 - even.asm:16\n80000111 - even.asm:17\n80000112 - even.asm:18\n80000113 - even.asm:19\n80000115 - even.asm:20\n80000116 - even.asm:21\n80000117 - even.asm:22\n80000118 again even.asm:23\n80000118 - even.asm:23\n
 text odd.map 80000100 left odd.asm:3\n80000100 - odd.asm:3\n80000101 - odd.asm:4\n80000103 - odd.asm:5\n80000104 - odd.asm:6\n80000105 - odd.asm:7\n80000106 - odd.asm:8\n80000107 - odd.asm:9\n80000109 - odd.asm:10\n8000010A - odd.asm:11\n8000010B - odd.asm:12\n8000010C right odd.asm:13\n8000010C - odd.asm:13\n8000010D - odd.asm:14\n8000010F - odd.asm:15\n80000110 - odd.asm:16\n80000111 - odd.asm:17\n80000112 - odd.asm:18\n80000113 - odd.asm:19\n80000115 - odd.asm:20\n80000116 - odd.asm:21\n80000117 - odd.asm:22\n80000118 again odd.asm:23\n80000118 - odd.asm:23\n
@@ -168,12 +195,12 @@ copy odd.map maps/61.map
 copy odd.map maps/63.map
 tpnet waits device --map maps >named
 ends named waits elsewhere\nboth send: node 16 link 1 waits for node 17 link 0\ncycle: nodes 16 17\n
-has named node 16 out 1 sends left 1 process 80000201 at 80000106 after right+5 (even.asm:7) to node 17 link 0: both send\n
-has named node 17 out 0 sends left 1 process 80000201 at 80000106 after left+5 (wrong.asm:7) to node 16 link 1: both send\n
+has named node 16 out 1 sends left 1 since 16 process 80000201 at 80000106 after right+5 (even.asm:7) to node 17 link 0: both send\n
+has named node 17 out 0 sends left 1 since 17 process 80000201 at 80000106 after left+5 (wrong.asm:7) to node 16 link 1: both send\n
 tpnet waits device --map maps --json >json
-has json "process":2147484161,"at":2147483910,"label":"left","offset":5,"place":"wrong.asm:7","other":{"node":16,"link":1},"why":"both send"}
+has json "process":2147484161,"since":17,"at":2147483910,"label":"left","offset":5,"place":"wrong.asm:7","other":{"node":16,"link":1},"why":"both send"}
 tpnet waits device --map maps --dot >dot
-has dot \n  node17 -> node16 [color=red label="0 sends: both send, left+5 (wrong.asm:7)"];\n
+has dot \n  node17 -> node16 [color=red label="0 sends since 17: both send, left+5 (wrong.asm:7)"];\n
 
 story refused
 # Of a file that is no device nothing is printed; the words are tested as those of other commands. --dot and --json don't go together, and a view
@@ -201,20 +228,20 @@ tpnet node device 1 --map m --json >node
 has node ,"iptr":2147483904,"label":"start","offset":0,"place":"a.asm:1","wptr":2147484160,
 tpnet run device --turns 6 --workers 1 2>err
 tpnet waits device --map m >out
-has out node 0 in 1 inputs left 1 process 80000201 at 80000106 after start+5 (a.asm:6) from node 1 link 0: both input\n
-has out node 1 in 0 inputs left 1 process 80000201 at 80000106 after start+5 (a.asm:6) from node 0 link 1: both input\n
+has out node 0 in 1 inputs left 1 since 0 process 80000201 at 80000106 after start+5 (a.asm:6) from node 1 link 0: both input\n
+has out node 1 in 0 inputs left 1 since 1 process 80000201 at 80000106 after start+5 (a.asm:6) from node 0 link 1: both input\n
 text m/1.map 80000105 - b c.asm:6
 tpnet waits device --map=m >out
-has out node 1 in 0 inputs left 1 process 80000201 at 80000106 after (b c.asm:6) from node 0 link 1: both input\n
+has out node 1 in 0 inputs left 1 since 1 process 80000201 at 80000106 after (b c.asm:6) from node 0 link 1: both input\n
 text m/1.map 80000106 past b.asm:7\n
 tpnet waits device --map m >out
-has out node 1 in 0 inputs left 1 process 80000201 at 80000106 from node 0 link 1: both input\n
+has out node 1 in 0 inputs left 1 since 1 process 80000201 at 80000106 from node 0 link 1: both input\n
 text m/1.map 80000105 here b.asm:6\n80000105 again b.asm:60\n
 tpnet waits device --map m >out
-has out node 1 in 0 inputs left 1 process 80000201 at 80000106 after again+0 (b.asm:60) from node 0 link 1: both input\n
+has out node 1 in 0 inputs left 1 since 1 process 80000201 at 80000106 after again+0 (b.asm:60) from node 0 link 1: both input\n
 text m/1.map \n
 tpnet waits device --map m >out
-has out node 1 in 0 inputs left 1 process 80000201 at 80000106 after start+5 (a.asm:6) from node 0 link 1: both input\n
+has out node 1 in 0 inputs left 1 since 1 process 80000201 at 80000106 after start+5 (a.asm:6) from node 0 link 1: both input\n
 tpnet waits device --dot
 
 story no_map

@@ -10,3 +10,5 @@ mod Moments
 mod Workspaces
 pub mod Traces
 mod Looked
+mod Walks
+mod Told

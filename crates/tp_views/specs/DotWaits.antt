@@ -5,7 +5,7 @@ use Rattle.tp_views.specs.Maps.{Maps, Row, rows_of, spot_text}
 use Rattle.tp_views.specs.Scene.{Seen}
 use Rattle.tp_views.specs.Sums.{why_name}
 use Rattle.tp_views.specs.Waiting.{is_first, links_of}
-use Rattle.tp_views.specs.Waits.{deed_name}
+use Rattle.tp_views.specs.Waits.{deed_name, since_part}
 use Rattle.tp_views.specs.declared.scene.Doing.{Doing}
 use Rattle.tp_views.specs.declared.scene.Doing.TheVariants.{Halted, Runs, Rests}
 use Rattle.tp_views.specs.declared.scene.NodeSeen.{NodeSeen}
@@ -63,11 +63,14 @@ color_name why = if is_ended why then codes "red" else codes "black"
 abbrev pub edge_head : Wait → List ℕ
 edge_head wait = (codes "  node" ++ (decimal wait.node ++ codes " -> ")) ++ end_name wait.other
 
--- its link, what it does there, and why it waits
+-- its link, and what it does there
+abbrev pub edge_deed : Wait → List ℕ
+edge_deed wait =
+    codes " [color=" ++ (color_name wait.why ++ (codes " label=\"" ++ (decimal wait.link ++ (codes " " ++ deed_name wait.waiter.deed))))
+
+-- these, since when it waits, and why
 abbrev pub edge_label : Wait → List ℕ
-edge_label wait =
-    codes " [color=" ++ (color_name wait.why ++ (codes " label=\"" ++ (decimal wait.link ++ (codes " " ++ (deed_name wait.waiter.deed
-    ++ (codes ": " ++ why_name wait.why))))))
+edge_label wait = edge_deed wait ++ (since_part wait.since ++ (codes ": " ++ why_name wait.why))
 
 -- the instruction in which it waits, which the map's rows name
 abbrev pub spot_label : List Row → Option ℕ → List ℕ

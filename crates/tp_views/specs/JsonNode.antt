@@ -1,6 +1,7 @@
 -- What `node --json` prints of a node.
 use Rattle.std.specs.Prelude.{ℕ, Bool, List, ◌++◌, map, Option, Some, None, codes}
-use Rattle.tp_views.specs.Lower.{decimal, InEnd, InIdle, Inputs, Enabled, OutEnd, OutIdle, Transfer, Cpu, Fault, Queue, State, halt_byte, page_count, NodeState, state_name}
+use Rattle.tp_views.specs.Lower.{decimal, InEnd, InIdle, Enabled, OutEnd, OutIdle, Transfer, Cpu, Fault, Queue, State, halt_byte, page_count, NodeState, state_name}
+use Rattle.tp_model.specs.declared.link.InEnd.TheVariants.{Inputs}
 use Rattle.tp_model.specs.declared.link.OutEnd.TheVariants.{Waits}
 use Rattle.tp_views.specs.Json.{json_bool, json_list}
 use Rattle.tp_views.specs.JsonMaps.{spot_fields}

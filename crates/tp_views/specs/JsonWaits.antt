@@ -6,12 +6,15 @@ use Rattle.tp_views.specs.Json.{comma}
 use Rattle.tp_views.specs.JsonMaps.{spot_fields}
 use Rattle.tp_views.specs.Maps.{Maps, Row, rows_of}
 use Rattle.tp_views.specs.Scene.{Seen}
+use Rattle.tp_views.specs.Since.{known_since}
 use Rattle.tp_views.specs.Sums.{why_name}
 use Rattle.tp_views.specs.Waiting.{links_of, side_of}
-use Rattle.tp_views.specs.Waits.{deed_name, last_made}
+use Rattle.tp_views.specs.Waits.{deed_name}
 use Rattle.tp_views.specs.declared.scene.Doing.{Doing}
 use Rattle.tp_views.specs.declared.scene.Doing.TheVariants.{Halted, Runs, Rests}
 use Rattle.tp_views.specs.declared.scene.NodeSeen.{NodeSeen}
+use Rattle.tp_views.specs.declared.since.Since.{Since}
+use Rattle.tp_views.specs.declared.since.Since.TheVariants.{By, Before}
 use Rattle.tp_views.specs.declared.waiting.LinkWaits.{LinkWaits}
 use Rattle.tp_views.specs.declared.waiting.Wait.{Wait}
 use Rattle.tp_views.specs.declared.why.Reason.{Reason}
@@ -47,6 +50,14 @@ abbrev pub deed_fields : Waiter → List ℕ
 deed_fields waiter =
     codes "{\"does\":\"" ++ (deed_name waiter.deed ++ (codes "\",\"left\":" ++ (decimal waiter.left ++ (codes ",\"process\":" ++ decimal waiter.process))))
 
+-- since which entry it waits; null if since before the first one after the checkpoint
+abbrev pub since_field : Since → List ℕ
+since_field (By number) = codes ",\"since\":" ++ decimal number
+since_field (Before number) = codes ",\"since\":null"
+
+abbrev pub begun_fields : Wait → List ℕ
+begun_fields wait = deed_fields wait.waiter ++ since_field wait.since
+
 -- where it goes on; the map's rows name the instruction before that, in which it waits
 abbrev pub resumes_fields : List Row → Option ℕ → List ℕ
 resumes_fields rows None = codes ",\"at\":null"
@@ -59,7 +70,7 @@ abbrev pub why_field : Reason → List ℕ
 why_field why = codes ",\"why\":\"" ++ (why_name why ++ codes "\"}")
 
 abbrev pub wait_item : List Row → Wait → List ℕ
-wait_item rows wait = deed_fields wait.waiter ++ (resumes_fields rows wait.waiter.resumes ++ (other_field wait.other ++ why_field wait.why))
+wait_item rows wait = begun_fields wait ++ (resumes_fields rows wait.waiter.resumes ++ (other_field wait.other ++ why_field wait.why))
 
 abbrev pub end_item : List Row → Option Wait → List ℕ
 end_item rows None = codes "null"
@@ -90,24 +101,24 @@ cycle_field i rows = number_or_null (codes ",\"cycle\":") (first_of (get_or rows
 abbrev pub number_field : ℕ → List ℕ
 number_field i = comma i ++ (codes "{\"node\":" ++ decimal i)
 
--- the last of the kept entries that it made
-abbrev pub last_field : Seen → List (Entry × ℕ) → ℕ → List ℕ
-last_field s kept i = number_or_null (codes ",\"last\":") (last_made i s.wires (length s.nodes) kept)
+-- the last entry that it made
+abbrev pub last_field : Seen → ℕ → List ℕ
+last_field s i = number_or_null (codes ",\"last\":") (known_since s.since i).last
 
 -- those that it waits for
 abbrev pub link_fields : List Row → List ℕ → ℕ → List LinkWaits → List ℕ
 link_fields rows reached i links = cycle_field i reached ++ (ends_list rows true links ++ (ends_list rows false links ++ codes "}"))
 
-abbrev pub node_item : Seen → List (Entry × ℕ) → List ℕ → List Row → ℕ → NodeSeen → List ℕ
-node_item s kept reached rows i own =
-    number_field i ++ (does_field rows own.doing ++ (last_field s kept i ++ link_fields rows reached i (links_of s i own)))
+abbrev pub node_item : Seen → List ℕ → List Row → ℕ → NodeSeen → List ℕ
+node_item s reached rows i own =
+    number_field i ++ (does_field rows own.doing ++ (last_field s i ++ link_fields rows reached i (links_of s i own)))
 
-abbrev pub nodes_items : Seen → List (Entry × ℕ) → List ℕ → Maps → ℕ → List NodeSeen → List ℕ
-nodes_items s kept reached maps i [] = []
-nodes_items s kept reached maps i (own ∷ nodes) = node_item s kept reached (rows_of maps i) i own ++ nodes_items s kept reached maps (i + 1) nodes
+abbrev pub nodes_items : Seen → List ℕ → Maps → ℕ → List NodeSeen → List ℕ
+nodes_items s reached maps i [] = []
+nodes_items s reached maps i (own ∷ nodes) = node_item s reached (rows_of maps i) i own ++ nodes_items s reached maps (i + 1) nodes
 
 -- ## All
 
--- All that is printed of a network, of the entries that led to it, and of what maps say of addresses.
-abbrev pub waits_json : Seen → List (Entry × ℕ) → Maps → List ℕ
-waits_json s kept maps = codes "{\"nodes\":[" ++ (nodes_items s kept (reached s) maps 0 s.nodes ++ codes "]}\n")
+-- All that is printed of a network, and of what maps say of addresses.
+abbrev pub waits_json : Seen → Maps → List ℕ
+waits_json s maps = codes "{\"nodes\":[" ++ (nodes_items s (reached s) maps 0 s.nodes ++ codes "]}\n")

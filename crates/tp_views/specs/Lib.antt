@@ -23,6 +23,7 @@ pub mod JsonNode
 pub mod JsonPort
 pub mod Scene
 pub mod Why
+pub mod Since
 pub mod Cycles
 pub mod Waiting
 pub mod Inside

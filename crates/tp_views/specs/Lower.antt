@@ -1,10 +1,12 @@
 -- What definitions and contracts here name of the crates below.
 pub use Rattle.std.specs.Fmt.{decimal}
 pub use Rattle.std.specs.Io.KnownBytes.{Appends}
-pub use Rattle.std.specs.List.{list_all, list_any, slice_split}
+pub use Rattle.std.specs.List.{AllByRecursion, list_all, list_any, slice_split}
 pub use Rattle.std.specs.Option.{option_and_then, option_map, unwrap_or}
 unfoldable pub use Rattle.std.specs.Str.{is_utf8}
 pub use Rattle.std.specs.Str.Parse.{digits_value}
+pub use Rattle.std.specs.declared.alloc.Global.{Global}
+pub use Rattle.std.specs.declared.string.String.{String}
 pub use Rattle.tp_model.specs.Bytes.{u32_at, u8_at}
 pub use Rattle.tp_model.specs.Device.{area_start, areas_end}
 pub use Rattle.tp_model.specs.Disk.{Moment, Sync, done}
@@ -28,7 +30,7 @@ pub use Rattle.tp_model.specs.Topology.{Topology, line_count}
 unfoldable pub use Rattle.tp_model.specs.Topology.{is_topology}
 pub use Rattle.tp_model.specs.TopologyWords.{is_digit}
 pub use Rattle.tp_model.specs.Turn.{by_link}
-pub use Rattle.tp_model.specs.Word.{bit}
+pub use Rattle.tp_model.specs.Word.{bit, most_neg}
 pub use Rattle.tp_model.specs.declared.areas.TwoAreas.{TwoAreas}
 pub use Rattle.tp_model.specs.declared.entry.Entry.{Entry}
 pub use Rattle.tp_model.specs.declared.entry.Entry.TheVariants.{Confirm, HostIn, Run, Take, Turn}
@@ -36,7 +38,7 @@ pub use Rattle.tp_model.specs.declared.form.Form.{Form}
 pub use Rattle.tp_model.specs.declared.form.Form.TheVariants.{Plain, Turns}
 pub use Rattle.tp_model.specs.declared.limits.TheConstants.{AREA_HEAD_BYTES, IMAGE_HEAD_BYTES, MAX_HELD, MAX_NODES}
 pub use Rattle.tp_model.specs.declared.link.InEnd.{InEnd}
-pub use Rattle.tp_model.specs.declared.link.InEnd.TheVariants.{Enabled, Idle as InIdle, Inputs}
+pub use Rattle.tp_model.specs.declared.link.InEnd.TheVariants.{Enabled, Idle as InIdle}
 pub use Rattle.tp_model.specs.declared.link.OutEnd.{OutEnd}
 pub use Rattle.tp_model.specs.declared.link.OutEnd.TheVariants.{Idle as OutIdle}
 pub use Rattle.tp_model.specs.declared.link.Received.{Received}
@@ -59,7 +61,7 @@ pub use Rattle.tp_node.specs.Waiters.{listener, sender}
 pub use Rattle.tp_node.specs.declared.standing.Standing.{Standing}
 pub use Rattle.tp_node.specs.declared.standing.Standing.TheVariants.{Free, Halted, Waits}
 pub use Rattle.tp_node.specs.declared.waiter.Deed.{Deed}
-pub use Rattle.tp_node.specs.declared.waiter.Deed.TheVariants.{Chooses, Sends}
+pub use Rattle.tp_node.specs.declared.waiter.Deed.TheVariants.{Chooses, Inputs, Sends}
 pub use Rattle.tp_node.specs.declared.waiter.Waiter.{Waiter}
 pub use Rattle.tp_turn.specs.Output.{IsOutput}
 pub use Rattle.tp_turn.specs.Tried.{fresh_image}
@@ -78,6 +80,7 @@ pub use Rattle.tp_area.specs.Fronts.{area_front}
 pub use Rattle.tp_area.specs.declared.front.AreaFront.{AreaFront}
 pub use Rattle.tp_recover.specs.Before.{IsImage, IsImageOf, node_before}
 pub use Rattle.tp_recover.specs.EntriesLeft.{entries_left}
+pub use Rattle.tp_recover.specs.Nodes.{AreAllThawed, live_node}
 pub use Rattle.tp_recover.specs.Reading.{LeavesAlone, LeavesNothingNew, ReadAnswer, found, has_read}
 pub use Rattle.tp_recover.specs.declared.unopened.Unopened.{Unopened}
 pub use Rattle.tp_words.specs.declared.args.TheConstants.{MAX_AREA}

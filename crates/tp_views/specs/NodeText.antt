@@ -1,6 +1,7 @@
 -- The lines that `node` prints of a node.
 use Rattle.std.specs.Prelude.{ℕ, ◌+◌, Bool, List, [], ◌∷◌, ◌++◌, Option, Some, None, codes}
-use Rattle.tp_views.specs.Lower.{decimal, InEnd, InIdle, Inputs, Enabled, OutEnd, OutIdle, Transfer, Cpu, Fault, Queue, State, halt_byte, page_count, NodeState, bit, hex_byte, hex_word, state_name}
+use Rattle.tp_views.specs.Lower.{decimal, InEnd, InIdle, Enabled, OutEnd, OutIdle, Transfer, Cpu, Fault, Queue, State, halt_byte, page_count, NodeState, bit, hex_byte, hex_word, state_name}
+use Rattle.tp_model.specs.declared.link.InEnd.TheVariants.{Inputs}
 use Rattle.tp_model.specs.declared.link.OutEnd.TheVariants.{Waits}
 use Rattle.tp_views.specs.Maps.{Row, spot_text}
 use Rattle.tp_views.specs.Names.{halt_name}

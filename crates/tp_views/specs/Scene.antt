@@ -6,6 +6,7 @@ use Rattle.tp_views.specs.declared.scene.Doing.TheVariants.{Halted, Runs, Rests}
 use Rattle.tp_views.specs.declared.scene.NodeSeen.{NodeSeen}
 use Rattle.tp_views.specs.declared.scene.PortHeld.{PortHeld}
 use Rattle.tp_views.specs.declared.scene.Scene.{Scene}
+use Rattle.tp_views.specs.declared.since.NodeSince.{NodeSince}
 
 -- what a node does
 abbrev pub doing_with : Option Fault → NodeState → Doing
@@ -43,15 +44,18 @@ pub record Seen : Type 0 where
   pub nodes : List NodeSeen
   pub fronts : List (Option Token)
   pub ports : List PortHeld
+  pub since : List NodeSince
 
-abbrev pub scene_of : List (Option WireEnd) → Network NodeState → Seen
-scene_of wires now = record {
+-- of a network in which processes wait since then
+abbrev pub scene_of : List (Option WireEnd) → Network NodeState → List NodeSince → Seen
+scene_of wires now since = record {
   wires = wires;
   nodes = map node_seen now.nodes;
   fronts = map (λ line. slice_get line 0) now.lines;
   ports = map port_held now.ports;
+  since = since;
 }
 
 -- a scene's lists
 abbrev pub seen_in : Scene → Seen
-seen_in scene = record { wires = scene.wires.items; nodes = scene.nodes.items; fronts = scene.fronts.items; ports = scene.ports.items }
+seen_in scene = record { wires = scene.wires.items; nodes = scene.nodes.items; fronts = scene.fronts.items; ports = scene.ports.items; since = scene.since.items }

@@ -2,6 +2,7 @@
 use Rattle.std.specs.Prelude.{ℕ, ◌+◌, ◌*◌, nat_lt, Bool, true, false, ◌||◌, if◌then◌else◌, List, [], ◌∷◌, Option, Some, None}
 use Rattle.tp_views.specs.Lower.{list_any, option_map, line_of, receiver, WireEnd, Link, AtPort, Waiter}
 use Rattle.tp_views.specs.Scene.{Seen}
+use Rattle.tp_views.specs.Since.{since_at}
 use Rattle.tp_views.specs.Why.{waiting_at, why}
 use Rattle.tp_views.specs.declared.scene.NodeSeen.{NodeSeen}
 use Rattle.tp_views.specs.declared.waiting.LinkWaits.{LinkWaits}
@@ -9,7 +10,7 @@ use Rattle.tp_views.specs.declared.waiting.Wait.{Wait}
 use Rattle.tp_views.specs.declared.why.Reason.{Reason}
 use Rattle.tp_views.specs.declared.why.Reason.TheVariants.{UnderWay, Halted, Runs, BothSend, BothInput, Elsewhere, Full, NoInput, NoWire}
 
--- a process of node i that waits at an end of link k, with the other end of the wire and why it still waits
+-- a process of node i that waits at an end of link k, since when, with the other end of the wire and why it still waits
 abbrev pub wait_of : Seen → Bool → ℕ → NodeSeen → ℕ → Waiter → Wait
 wait_of s sends i own k waiter = record {
   sends = sends;
@@ -17,6 +18,7 @@ wait_of s sends i own k waiter = record {
   link = k;
   line = 4 * i + k;
   waiter = waiter;
+  since = since_at s.since sends i k;
   other = receiver s.wires (4 * i + k);
   why = why s sends own (4 * i + k);
 }

@@ -1,15 +1,17 @@
 -- What `waits` prints: for each node what it does, and for each of its processes that waits at a link why; and what that adds up to.
 use Rattle.std.specs.Prelude.{ℕ, ◌+◌, ◌-◌, ◌==◌, Bool, if◌then◌else◌, List, [], ◌∷◌, ◌++◌, length, Option, Some, None, codes}
-use Rattle.tp_views.specs.Lower.{decimal, process, halt_byte, Entry, Fault, WireEnd, Deed, Sends, Chooses, hex_word, fault_name}
-use Rattle.tp_node.specs.declared.waiter.Deed.TheVariants.{Inputs}
+use Rattle.tp_views.specs.Lower.{decimal, process, halt_byte, Entry, Fault, WireEnd, Deed, Sends, Chooses, hex_word, fault_name, Inputs}
 use Rattle.tp_views.specs.Cycles.{cycles_text}
 use Rattle.tp_views.specs.Maps.{Maps, Row, rows_of, spot_text}
 use Rattle.tp_views.specs.Scene.{Seen}
+use Rattle.tp_views.specs.Since.{known_since}
 use Rattle.tp_views.specs.Sums.{other_part, sums_lines, why_name}
 use Rattle.tp_views.specs.Waiting.{links_of}
 use Rattle.tp_views.specs.declared.scene.Doing.{Doing}
 use Rattle.tp_views.specs.declared.scene.Doing.TheVariants.{Halted, Runs, Rests}
 use Rattle.tp_views.specs.declared.scene.NodeSeen.{NodeSeen}
+use Rattle.tp_views.specs.declared.since.Since.{Since}
+use Rattle.tp_views.specs.declared.since.Since.TheVariants.{By, Before}
 use Rattle.tp_views.specs.declared.waiting.LinkWaits.{LinkWaits}
 use Rattle.tp_views.specs.declared.waiting.Wait.{Wait}
 
@@ -22,15 +24,6 @@ deed_name Inputs = codes "inputs"
 deed_name Chooses = codes "chooses"
 
 -- ## A node
-
--- The number of the last of some entries that node i made, in a network of these wires and N nodes; `last` if it made none of them.
--- Since then the node has been as it is.
-abbrev pub last_from : Option ℕ → ℕ → List (Option WireEnd) → ℕ → List (Entry × ℕ) → Option ℕ
-last_from last i wires N [] = last
-last_from last i wires N (kept ∷ more) = last_from (if process wires N kept.0 == i then Some kept.1 else last) i wires N more
-
-abbrev pub last_made : ℕ → List (Option WireEnd) → ℕ → List (Entry × ℕ) → Option ℕ
-last_made i wires N kept = last_from None i wires N kept
 
 -- what it does; the map's rows name the address
 abbrev pub halted_part : List Row → Fault → ℕ → List ℕ
@@ -52,11 +45,20 @@ last_part (Some number) = codes " last " ++ (decimal number ++ codes "\n")
 abbrev pub side_name : Bool → List ℕ
 side_name sends = if sends then codes " out " else codes " in "
 
--- the node, the end, what the process does there, how many bytes are left, and its descriptor
-abbrev pub waiter_part : Wait → List ℕ
-waiter_part wait =
+-- the node, the end, what the process does there, and how many bytes are left
+abbrev pub deed_part : Wait → List ℕ
+deed_part wait =
     codes "node " ++ (decimal wait.node ++ (side_name wait.sends ++ (decimal wait.link ++ (codes " " ++ (deed_name wait.waiter.deed
-    ++ (codes " left " ++ (decimal wait.waiter.left ++ (codes " process " ++ hex_word wait.waiter.process))))))))
+    ++ (codes " left " ++ decimal wait.waiter.left))))))
+
+-- since which entry, or since before the first one after the checkpoint
+abbrev pub since_part : Since → List ℕ
+since_part (By number) = codes " since " ++ decimal number
+since_part (Before number) = codes " since before " ++ decimal number
+
+-- these, and its descriptor
+abbrev pub waiter_part : Wait → List ℕ
+waiter_part wait = deed_part wait ++ (since_part wait.since ++ (codes " process " ++ hex_word wait.waiter.process))
 
 -- where it goes on; the map's rows name the instruction before that, in which it waits
 abbrev pub resumes_part : List Row → Option ℕ → List ℕ
@@ -87,16 +89,16 @@ abbrev pub name_part : ℕ → List ℕ
 name_part i = codes "node " ++ decimal i
 
 -- the lines of node i, whose map has these rows
-abbrev pub node_lines : Seen → List (Entry × ℕ) → List Row → ℕ → NodeSeen → List ℕ
-node_lines s kept rows i own =
-    name_part i ++ (doing_part rows own.doing ++ (last_part (last_made i s.wires (length s.nodes) kept) ++ links_part rows (links_of s i own)))
+abbrev pub node_lines : Seen → List Row → ℕ → NodeSeen → List ℕ
+node_lines s rows i own =
+    name_part i ++ (doing_part rows own.doing ++ (last_part (known_since s.since i).last ++ links_part rows (links_of s i own)))
 
-abbrev pub nodes_lines : Seen → List (Entry × ℕ) → Maps → ℕ → List NodeSeen → List ℕ
-nodes_lines s kept maps i [] = []
-nodes_lines s kept maps i (own ∷ nodes) = node_lines s kept (rows_of maps i) i own ++ nodes_lines s kept maps (i + 1) nodes
+abbrev pub nodes_lines : Seen → Maps → ℕ → List NodeSeen → List ℕ
+nodes_lines s maps i [] = []
+nodes_lines s maps i (own ∷ nodes) = node_lines s (rows_of maps i) i own ++ nodes_lines s maps (i + 1) nodes
 
 -- ## All
 
--- All that is printed of a network, of the entries that led to it, and of what maps say of addresses.
-abbrev pub waits_text : Seen → List (Entry × ℕ) → Maps → List ℕ
-waits_text s kept maps = nodes_lines s kept maps 0 s.nodes ++ (sums_lines s 0 s.nodes ++ cycles_text s)
+-- All that is printed of a network, and of what maps say of addresses.
+abbrev pub waits_text : Seen → Maps → List ℕ
+waits_text s maps = nodes_lines s maps 0 s.nodes ++ (sums_lines s 0 s.nodes ++ cycles_text s)

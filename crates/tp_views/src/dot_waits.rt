@@ -2,7 +2,7 @@
 
 ghost use Rattle.std.specs.Prelude.{◌≡◌, ◌++◌, ◌<◌, ◌≤◌, IfOk, OnOk, length, string_bytes};
 ghost use Rattle.tp_model.specs.declared.limits.TheConstants.{MAX_NODES};
-ghost use Rattle.tp_views.specs.DotWaits.{color_name, doing_label, edge_head, edge_label, edge_line, edge_part, edges_at, edges_of, end_name, is_ended, node_dot, node_line, nodes_dot, spot_label, waits_dot, wire_line, wire_part, wires_of};
+ghost use Rattle.tp_views.specs.DotWaits.{color_name, doing_label, edge_deed, edge_head, edge_label, edge_line, edge_part, edges_at, edges_of, end_name, is_ended, node_dot, node_line, nodes_dot, spot_label, waits_dot, wire_line, wire_part, wires_of};
 ghost use Rattle.tp_views.specs.Maps.{rows_seen};
 ghost use Rattle.tp_views.specs.NodeMaps.{maps_seen};
 ghost use Rattle.tp_views.specs.Scene.{seen_in};
@@ -15,7 +15,7 @@ use crate::parts::push_parts;
 use crate::scene::{Doing, NodeSeen, Scene};
 use crate::sums::why_name;
 use crate::waiting::{LinkWaits, Wait, is_first, links_of};
-use crate::waits::{before, deed_name};
+use crate::waits::{before, deed_name, push_since};
 use crate::why::Reason;
 use std::alloc::{AllocError, Global};
 use tp_model::WireEnd;
@@ -138,15 +138,11 @@ fn push_edge_head(text: &mut String, wait: &Wait) -> Result<(), AllocError>
     push_name(text, wait.other)
 }
 
-/// Appends what a process does and why it waits, as an edge's label begins.
-fn push_edge_label(text: &mut String, wait: &Wait) -> Result<(), AllocError>
-    ensures { OnOk result (string_bytes text.new ≡ string_bytes text.old ++ edge_label wait.now) }
+/// Appends what a process does that waits, as an edge's label begins.
+fn push_edge_deed(text: &mut String, wait: &Wait) -> Result<(), AllocError>
+    ensures { OnOk result (string_bytes text.new ≡ string_bytes text.old ++ edge_deed wait.now) }
 {
-    let (color, deed, name) = (
-        color_name(wait.why),
-        deed_name(wait.waiter.deed),
-        why_name(wait.why),
-    );
+    let (color, deed) = (color_name(wait.why), deed_name(wait.waiter.deed));
     push_parts(
         text,
         &[
@@ -156,10 +152,18 @@ fn push_edge_label(text: &mut String, wait: &Wait) -> Result<(), AllocError>
             Number(wait.link as u64),
             Text(" "),
             Text(deed),
-            Text(": "),
-            Text(name),
         ],
     )
+}
+
+/// Appends what a process does, since when it waits, and why.
+fn push_edge_label(text: &mut String, wait: &Wait) -> Result<(), AllocError>
+    ensures { OnOk result (string_bytes text.new ≡ string_bytes text.old ++ edge_label wait.now) }
+{
+    let name = why_name(wait.why);
+    push_edge_deed(text, wait)?;
+    push_since(text, wait.since)?;
+    push_parts(text, &[Text(": "), Text(name)])
 }
 
 /// Appends in which instruction a process waits, if a map is there.

@@ -2,7 +2,7 @@
 
 ghost use Rattle.std.specs.Prelude.{◌≡◌, ◌++◌, ◌<◌, ◌≤◌, IfOk, OnOk, length, string_bytes};
 ghost use Rattle.tp_model.specs.declared.limits.TheConstants.{MAX_NODES};
-ghost use Rattle.tp_views.specs.JsonWaits.{cycle_field, deed_fields, does_field, end_item, ends_list, ends_name, halted_field, item_after, items_from, last_field, link_fields, node_item, nodes_items, number_field, number_or_null, other_field, other_value, resumes_fields, wait_item, waits_json, why_field};
+ghost use Rattle.tp_views.specs.JsonWaits.{begun_fields, cycle_field, deed_fields, does_field, end_item, ends_list, ends_name, halted_field, item_after, items_from, last_field, link_fields, node_item, nodes_items, number_field, number_or_null, other_field, other_value, resumes_fields, since_field, wait_item, waits_json, why_field};
 ghost use Rattle.tp_views.specs.Maps.{rows_seen};
 ghost use Rattle.tp_views.specs.NodeMaps.{maps_seen};
 ghost use Rattle.tp_views.specs.Scene.{seen_in};
@@ -15,12 +15,12 @@ use crate::node_maps::NodeMaps;
 use crate::parts::Part::{Number, Text};
 use crate::parts::push_parts;
 use crate::scene::{Doing, NodeSeen, Scene};
+use crate::since::{Since, known_since};
 use crate::sums::why_name;
 use crate::waiting::{LinkWaits, Wait, links_of, side_of};
-use crate::waits::{before, deed_name, last_of};
+use crate::waits::{before, deed_name};
 use crate::why::Reason;
 use std::alloc::{AllocError, Global};
-use tp_book::Numbered;
 use tp_model::{Fault, WireEnd};
 use tp_node::Waiter;
 use tp_trace::fault_name;
@@ -134,11 +134,29 @@ fn push_whom(text: &mut String, other: Option<WireEnd>) -> Result<(), AllocError
     push_other(text, other)
 }
 
+/// Appends since which entry a process waits.
+fn push_since(text: &mut String, since: Since) -> Result<(), AllocError>
+    ensures { OnOk result (string_bytes text.new ≡ string_bytes text.old ++ since_field since) }
+{
+    match since {
+        Since::By(number) => push_parts(text, &[Text(",\"since\":"), Number(number)]),
+        Since::Before(_) => push(text, ",\"since\":null"),
+    }
+}
+
+/// Appends what a process does that waits at a link, its descriptor, and since when it waits.
+fn push_begun(text: &mut String, wait: &Wait) -> Result<(), AllocError>
+    ensures { OnOk result (string_bytes text.new ≡ string_bytes text.old ++ begun_fields wait.now) }
+{
+    push_deed(text, wait.waiter)?;
+    push_since(text, wait.since)
+}
+
 /// Appends the object of a process that waits at an end of a link.
 fn push_wait(text: &mut String, rows: &[MapRow<'_>], wait: &Wait) -> Result<(), AllocError>
     ensures { OnOk result (string_bytes text.new ≡ string_bytes text.old ++ wait_item (rows_seen rows.now) wait.now) }
 {
-    push_deed(text, wait.waiter)?;
+    push_begun(text, wait)?;
     push_resumes(text, rows, wait.waiter.resumes)?;
     push_whom(text, wait.other)?;
     push_why(text, wait.why)
@@ -229,16 +247,11 @@ fn push_number(text: &mut String, number: usize) -> Result<(), AllocError>
     push_parts(text, &[Text("{\"node\":"), Number(number as u64)])
 }
 
-/// Appends the field of the last of the kept entries that a node made.
-fn push_last(
-    text: &mut String,
-    scene: &Scene,
-    kept: &[Numbered],
-    number: usize,
-) -> Result<(), AllocError>
-    ensures { OnOk result (string_bytes text.new ≡ string_bytes text.old ++ last_field (seen_in scene.now) kept.now number) }
+/// Appends the field of the last entry that a node made.
+fn push_last(text: &mut String, scene: &Scene, number: usize) -> Result<(), AllocError>
+    ensures { OnOk result (string_bytes text.new ≡ string_bytes text.old ++ last_field (seen_in scene.now) number) }
 {
-    push_number_or_null(text, ",\"last\":", last_of(scene, kept, number))
+    push_number_or_null(text, ",\"last\":", known_since(&scene.since, number).last)
 }
 
 /// Appends the fields of those that a node waits for, and ends its object.
@@ -261,33 +274,31 @@ fn push_links(
 fn push_node(
     text: &mut String,
     scene: &Scene,
-    kept: &[Numbered],
     reached: &[u64],
     rows: &[MapRow<'_>],
     number: usize,
     own: &NodeSeen,
 ) -> Result<(), AllocError>
     requires { number < MAX_NODES }
-    ensures { OnOk result (string_bytes text.new ≡ string_bytes text.old ++ node_item (seen_in scene.now) kept.now reached.now (rows_seen rows.now) number own.now) }
+    ensures { OnOk result (string_bytes text.new ≡ string_bytes text.old ++ node_item (seen_in scene.now) reached.now (rows_seen rows.now) number own.now) }
 {
     push_number(text, number)?;
     push_does(text, rows, own.doing)?;
-    push_last(text, scene, kept, number)?;
+    push_last(text, scene, number)?;
     push_links(text, rows, reached, number, &links_of(scene, number, own))
 }
 
 fn push_nodes(
     text: &mut String,
     scene: &Scene,
-    kept: &[Numbered],
     reached: &[u64],
     maps: &NodeMaps<'_>,
 ) -> Result<(), AllocError>
     requires { length scene.now.nodes.items ≤ MAX_NODES }
-    ensures { OnOk result (string_bytes text.new ≡ string_bytes text.old ++ nodes_items (seen_in scene.now) kept.now reached.now (maps_seen maps.now) 0 scene.now.nodes.items) }
+    ensures { OnOk result (string_bytes text.new ≡ string_bytes text.old ++ nodes_items (seen_in scene.now) reached.now (maps_seen maps.now) 0 scene.now.nodes.items) }
 {
     for (number, own) in scene.nodes.iter().enumerate() {
-        push_node(text, scene, kept, reached, maps.of(number), number, own)?;
+        push_node(text, scene, reached, maps.of(number), number, own)?;
     }
     Ok(())
 }
@@ -296,16 +307,15 @@ fn push_nodes(
 pub(crate) fn waits_json(
     alloc: Global,
     scene: &Scene,
-    kept: &[Numbered],
     maps: &NodeMaps<'_>,
 ) -> Result<String, AllocError>
     requires { length scene.now.nodes.items ≤ MAX_NODES }
-    ensures { IfOk result (λ text. string_bytes text ≡ waits_json (seen_in scene.now) kept.now (maps_seen maps.now)) }
+    ensures { IfOk result (λ text. string_bytes text ≡ waits_json (seen_in scene.now) (maps_seen maps.now)) }
 {
     let sets = reached(alloc, scene)?;
     let mut text = String::new(alloc);
     push(&mut text, "{\"nodes\":[")?;
-    push_nodes(&mut text, scene, kept, &sets, maps)?;
+    push_nodes(&mut text, scene, &sets, maps)?;
     push(&mut text, "]}\n")?;
     Ok(text)
 }

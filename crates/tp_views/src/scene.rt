@@ -1,9 +1,10 @@
 //! What of a network's nodes, lines and ports says who waits for whom.
 
-ghost use Rattle.std.specs.Prelude.{◌≡◌, ◌≤◌, IfOk, length, map, slice_get};
+ghost use Rattle.std.specs.Prelude.{◌≡◌, ◌≤◌, [], IfOk, length, map, slice_get};
 ghost use Rattle.tp_model.specs.declared.limits.TheConstants.{MAX_HELD, MAX_NODES};
 ghost use Rattle.tp_views.specs.Scene.{doing_of, is_halted, is_resting, node_seen, port_held, scene_of, seen_in};
 
+use crate::since::NodeSince;
 use std::alloc::{AllocError, Global};
 use tp_book::HostPort;
 use tp_model::limits::MAX_HELD;
@@ -38,13 +39,15 @@ pub struct PortHeld {
     pub is_full: bool,
 }
 
-/// A network as far as it says who waits for whom: its wires, its nodes, the token that comes next on each line, and its ports.
+/// A network as far as it says who waits for whom: its wires, its nodes, the token that comes next on each line, and its ports. And since when
+/// processes wait at the links of each node, as far as that is known.
 #[derive(Drop)]
 pub struct Scene {
     pub wires: Vec<Option<WireEnd>>,
     pub nodes: Vec<NodeSeen>,
     pub fronts: Vec<Option<Token>>,
     pub ports: Vec<PortHeld>,
+    pub since: Vec<NodeSince>,
 }
 
 /// Whether a node has halted.
@@ -145,13 +148,13 @@ fn fronts_of(alloc: Global, lines: &Lines) -> Result<Vec<Option<Token>>, AllocEr
     Ok(fronts)
 }
 
-/// What a network with these wires says of who waits for whom.
+/// What a network with these wires says of who waits for whom. Since when isn't known.
 pub(crate) fn scene_of(
     alloc: Global,
     wires: &[Option<WireEnd>],
     network: &FlatNetwork,
 ) -> Result<Scene, AllocError>
-    ensures is { IfOk result (λ scene. seen_in scene ≡ scene_of wires.now network.now) }
+    ensures is { IfOk result (λ scene. seen_in scene ≡ scene_of wires.now network.now []) }
     ensures few { IfOk result (λ scene. length scene.nodes.items ≤ MAX_NODES) }
 {
     network.known();
@@ -160,5 +163,6 @@ pub(crate) fn scene_of(
         nodes: nodes_seen(alloc, network.nodes())?,
         fronts: fronts_of(alloc, network.lines())?,
         ports: ports_held(alloc, network.ports())?,
+        since: Vec::new(alloc),
     })
 }

@@ -1,4 +1,4 @@
-//! `tpnet trace`, on an image, and `tpnet try`, by steps: the steps of a node alone, and what comes in at its links, a line each.
+//! `tpnet trace` of an image, and `tpnet try` without `--turns`: a line for each step of one node, and for each token that comes in at its links.
 
 ghost use Rattle.std.specs.Prelude.{◌≡◌, ◌≤◌, None, IfErr, IfOk, OnOk, map, option_copied};
 ghost use Rattle.tp_views.specs.Lower.{Appends, node_of, IsLinked, attended};
@@ -17,7 +17,7 @@ use tp_node::{ImageFault, Node, Runs};
 use tp_trace::Linked;
 use tp_turn::TryFault;
 
-/// Prints what there is at the moment before the line of a number, and answers whether the trace goes on.
+/// Prints what happens next, as line `number`. Answers whether the trace goes on.
 fn put_moment<O: Write>(
     alloc: Global,
     rows: &[MapRow<'_>],
@@ -40,7 +40,7 @@ fn put_moment<O: Write>(
     Ok(goes)
 }
 
-/// Prints what is printed after the last line that was asked for.
+/// Prints why the trace ends after its last line.
 fn put_last<O: Write>(
     alloc: Global,
     rows: &[MapRow<'_>],
@@ -60,7 +60,7 @@ fn put_last<O: Write>(
     }
 }
 
-/// Prints the lines of a node as what they say happens, which takes no more memory for more of them.
+/// Prints at most `steps` lines, each as soon as it happened. More lines take no more memory.
 fn put_steps<O: Write>(
     alloc: Global,
     rows: &[MapRow<'_>],
@@ -83,7 +83,7 @@ fn put_steps<O: Write>(
     put_last(alloc, rows, stops, linked, runs, out)
 }
 
-/// The node of an image, whatever its links do.
+/// Reads the node of an image, also one whose links are at work.
 pub(crate) fn image_node(alloc: Global, image: &[u8]) -> Result<Node, TryFault>
     ensures { ReadsNode image.now result }
 {
@@ -94,7 +94,7 @@ pub(crate) fn image_node(alloc: Global, image: &[u8]) -> Result<Node, TryFault>
     }
 }
 
-/// Traces the node of an image.
+/// Reads an image, and prints the lines of its node.
 fn trace<O: Write>(
     alloc: Global,
     image: &[u8],
@@ -118,10 +118,10 @@ fn trace<O: Write>(
     }
 }
 
-/// `tpnet trace`, on the bytes of the image, whose links may be at work. `others` has for each link the bytes that its other end sends; `None`:
-/// nobody is there. Answers the program's status: 0 if exactly the lines of the node's first steps and of the tokens that came in were
-/// written, as far as they are printed and as many as `steps` at most, with what is printed where it stops; else 1. Whatever the status, only a first part of them was.
-/// It refuses bytes that are no image, and writes nothing then.
+/// `tpnet trace` of an image, given its bytes. `others` has, for each link, the bytes that its other end sends, or `None` if nobody is there.
+///
+/// Answers the program's status. It is 0 if exactly the node's lines were written: at most `steps`, and what is printed when the trace ends. Else it
+/// is 1, and only a first part of that was written. If the bytes are no image, nothing is written.
 pub fn trace_on<O: Write, E: Write>(
     alloc: Global,
     image: &[u8],

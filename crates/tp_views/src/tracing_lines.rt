@@ -1,4 +1,4 @@
-//! What happens at a node that is traced, and at its links, as lines.
+//! The lines of a trace: what a node does, and what comes in at its links.
 
 ghost use Rattle.std.specs.Prelude.{◌≡◌, ◌++◌, [], None, IfOk, OnOk, bytes_eq, string_bytes};
 ghost use Rattle.tp_views.specs.Lower.{IsNodeOfBytes, standing, stop_line, IsLinked, attended};
@@ -30,7 +30,7 @@ pub(crate) fn push_step_line(
     text.push_str("\n")
 }
 
-/// Whether a byte leaves.
+/// Whether `sent` is a byte.
 fn is_byte_out(sent: Option<(u8, Token)>) -> bool
     ensures { result ≡ is_byte_out sent }
 {
@@ -40,7 +40,7 @@ fn is_byte_out(sent: Option<(u8, Token)>) -> bool
     }
 }
 
-/// Whether a line in which that leaves is printed.
+/// Whether a line is printed that says that `sent` leaves.
 fn is_printed(lines: TraceLines, sent: Option<(u8, Token)>) -> bool
     ensures { result ≡ is_printed lines sent }
 {
@@ -91,7 +91,8 @@ fn push_heard(
     }
 }
 
-/// Has a node take what comes in next, or else make a step, and appends the line of that, if it is printed. Answers whether there was anything.
+/// Has a node take the next token that comes in, or make a step if none does. Appends the line of that, if it is printed. Answers `false` if
+/// nothing can happen.
 fn push_event(
     text: &mut String,
     rows: &[MapRow<'_>],
@@ -117,7 +118,7 @@ fn push_event(
     }
 }
 
-/// Appends the line of a node that has no step.
+/// Appends why a node has no step.
 fn push_standing(text: &mut String, node: &mut Node) -> Result<(), AllocError>
     ensures text { OnOk result (string_bytes text.new ≡ string_bytes text.old ++ stop_line (standing node.old.live)) }
     ensures same { node.new ≡ node.old }
@@ -125,7 +126,7 @@ fn push_standing(text: &mut String, node: &mut Node) -> Result<(), AllocError>
     push_stop(text, node.standing())
 }
 
-/// Appends why nothing happens any more at a node.
+/// Appends why nothing can happen at a node any more, and its state if it is printed.
 fn push_ended(
     alloc: Global,
     text: &mut String,
@@ -142,7 +143,8 @@ fn push_ended(
     push_state_if(alloc, text, rows, stops, node)
 }
 
-/// Appends what is printed after a line, and answers whether the trace goes on: it does if what is watched is `before` still.
+/// Compares the bytes that are watched with what they were `before` a line. Answers `true` if they are equal. Else it appends that the trace
+/// stops there.
 fn push_behind(
     alloc: Global,
     text: &mut String,
@@ -165,7 +167,7 @@ fn push_behind(
     Ok(false)
 }
 
-/// Appends what is printed of a moment at which the trace doesn't stop, and answers whether it goes on after that.
+/// Appends line `number`, and after it why the trace ends, if it does. Answers whether it goes on.
 fn push_happening(
     alloc: Global,
     text: &mut String,
@@ -194,7 +196,7 @@ fn push_happening(
     Ok(false)
 }
 
-/// Appends what is printed of the moment before the line of a number, and answers whether the trace goes on.
+/// Appends line `number`, unless the trace stops before it, and why the trace ends, if it does. Answers whether it goes on.
 fn push_moment(
     alloc: Global,
     text: &mut String,
@@ -215,7 +217,7 @@ fn push_moment(
     push_happening(alloc, text, rows, stops, number, linked, runs)
 }
 
-/// Appends why no further line is printed after the last one that was asked for.
+/// Appends why there is no further line after the last one: the node has no step, or enough lines were printed. The node may make one step more.
 fn push_last_line(
     alloc: Global,
     text: &mut String,
@@ -235,7 +237,7 @@ fn push_last_line(
     }
 }
 
-/// Appends what is printed after the last line that was asked for.
+/// Appends why the trace ends after its last line, and the node's state if it is printed.
 fn push_last(
     alloc: Global,
     text: &mut String,
@@ -256,7 +258,7 @@ fn push_last(
     text.push_str(state.as_str())
 }
 
-/// What is printed of the moment before the line of a number, and whether the trace goes on.
+/// Gives what `push_moment` appends, and whether the trace goes on.
 pub(crate) fn moment_text(
     alloc: Global,
     rows: &[MapRow<'_>],
@@ -274,7 +276,7 @@ pub(crate) fn moment_text(
     Ok((text, goes))
 }
 
-/// What is printed after the last line that was asked for.
+/// Gives what `push_last` appends.
 pub(crate) fn last_text(
     alloc: Global,
     rows: &[MapRow<'_>],

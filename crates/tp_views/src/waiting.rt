@@ -6,13 +6,14 @@ ghost use Rattle.tp_views.specs.Scene.{seen_in};
 ghost use Rattle.tp_views.specs.Waiting.{end_wait, has_inner_end, is_first, is_inner, is_told, link_waits, links_of, node_waits_inside, side_of, waits_inside};
 
 use crate::scene::{NodeSeen, Scene};
+use crate::since::{Since, since_at};
 use crate::why::{Reason, waiting_at, why};
 use tp_model::WireEnd;
 use tp_net::{line_of, link_line, receiver};
 use tp_node::Waiter;
 
 /// A process that waits at an end of a link, the output end if it sends: the end's node and link, and the line that it sends, what the process does
-/// there, the other end of the wire, and why it still waits.
+/// there, since when, the other end of the wire, and why it still waits.
 #[derive(Clone, Copy)]
 pub struct Wait {
     pub sends: bool,
@@ -20,6 +21,7 @@ pub struct Wait {
     pub link: u8,
     pub line: usize,
     pub waiter: Waiter,
+    pub since: Since,
     pub other: Option<WireEnd>,
     pub why: Reason,
 }
@@ -44,6 +46,7 @@ fn end_wait(scene: &Scene, sends: bool, node: usize, own: &NodeSeen, link: u8) -
             link,
             line,
             waiter,
+            since: since_at(&scene.since, sends, node, link),
             other: receiver(&scene.wires, line),
             why: why(scene, sends, own, line),
         }),

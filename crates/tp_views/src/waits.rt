@@ -1,53 +1,27 @@
-//! What `waits` prints: for each node what it does, and for each of its processes that waits at a link why; and what that adds up to.
+//! What `waits` prints: a line for each node, one for each process that waits at a link, and what these add up to.
 
 ghost use Rattle.std.specs.Prelude.{◌≡◌, ◌++◌, ◌-◌, ◌<◌, ◌≤◌, IfOk, OnOk, length, string_bytes};
 ghost use Rattle.tp_model.specs.declared.limits.TheConstants.{MAX_NODES};
 ghost use Rattle.tp_views.specs.Maps.{rows_seen};
 ghost use Rattle.tp_views.specs.NodeMaps.{maps_seen};
 ghost use Rattle.tp_views.specs.Scene.{seen_in};
-ghost use Rattle.tp_views.specs.Waits.{deed_name, doing_part, end_part, halted_part, last_made, last_part, link_part, links_part, name_part, node_lines, nodes_lines, resumes_part, side_name, toward, wait_line, waiter_part, waits_text};
+ghost use Rattle.tp_views.specs.Waits.{deed_name, deed_part, doing_part, end_part, halted_part, last_part, link_part, links_part, name_part, node_lines, nodes_lines, resumes_part, side_name, since_part, toward, wait_line, waiter_part, waits_text};
 
 use crate::cycles::push_cycles;
-use crate::journal::process_of;
 use crate::maps::{MapRow, push_spot};
 use crate::node_maps::NodeMaps;
 use crate::parts::Part::{Number, Text, Word};
 use crate::parts::push_parts;
 use crate::scene::{Doing, NodeSeen, Scene};
+use crate::since::{Since, known_since};
 use crate::sums::{push_other, push_sums, why_name};
 use crate::waiting::{LinkWaits, Wait, links_of};
 use std::alloc::{AllocError, Global};
-use tp_book::Numbered;
-use tp_model::{Fault, WireEnd};
+use tp_model::Fault;
 use tp_node::{Deed, halt_byte};
 use tp_trace::fault_name;
 
-/// The number of the last of some entries that a node made, if it made one.
-fn last_made(
-    number: usize,
-    wires: &[Option<WireEnd>],
-    nodes: usize,
-    kept: &[Numbered],
-) -> Option<u64>
-    ensures { result ≡ last_made number wires.now nodes kept.now }
-{
-    let mut last = None;
-    for one in kept {
-        if process_of(wires, nodes, one.entry) == number {
-            last = Some(one.number);
-        }
-    }
-    last
-}
-
-/// The number of the last of the kept entries that a node of a network made, if it made one.
-pub(crate) fn last_of(scene: &Scene, kept: &[Numbered], number: usize) -> Option<u64>
-    ensures { result ≡ last_made number scene.now.wires.items (length scene.now.nodes.items) kept.now }
-{
-    last_made(number, &scene.wires, scene.nodes.len(), kept)
-}
-
-/// What a process does that waits.
+/// The word for what a process does at the link at which it waits.
 pub(crate) fn deed_name(deed: Deed) -> &'static str
     ensures { result.now ≡ deed_name deed }
 {
@@ -58,14 +32,14 @@ pub(crate) fn deed_name(deed: Deed) -> &'static str
     }
 }
 
-/// Which end of a link it is.
+/// The word for a link's output end, or for its input end.
 fn side_name(sends: bool) -> &'static str
     ensures { result.now ≡ side_name sends }
 {
     if sends { " out " } else { " in " }
 }
 
-/// What leads to the other end.
+/// The word before the other end of the wire.
 fn toward(sends: bool) -> &'static str
     ensures { result.now ≡ toward sends }
 {
@@ -114,9 +88,9 @@ fn push_last(text: &mut String, last: Option<u64>) -> Result<(), AllocError>
     }
 }
 
-/// Appends which process waits at a link, and what it does there.
-fn push_waiter(text: &mut String, wait: &Wait) -> Result<(), AllocError>
-    ensures { OnOk result (string_bytes text.new ≡ string_bytes text.old ++ waiter_part wait.now) }
+/// Appends the end at which a process waits, what it does there, and how many bytes are left.
+fn push_deed(text: &mut String, wait: &Wait) -> Result<(), AllocError>
+    ensures { OnOk result (string_bytes text.new ≡ string_bytes text.old ++ deed_part wait.now) }
 {
     let (side, deed) = (side_name(wait.sends), deed_name(wait.waiter.deed));
     push_parts(
@@ -130,20 +104,37 @@ fn push_waiter(text: &mut String, wait: &Wait) -> Result<(), AllocError>
             Text(deed),
             Text(" left "),
             Number(wait.waiter.left as u64),
-            Text(" process "),
-            Word(wait.waiter.process),
         ],
     )
 }
 
-/// The last byte of the instruction before an address.
+/// Appends since when a process waits.
+pub(crate) fn push_since(text: &mut String, since: Since) -> Result<(), AllocError>
+    ensures { OnOk result (string_bytes text.new ≡ string_bytes text.old ++ since_part since) }
+{
+    match since {
+        Since::By(number) => push_parts(text, &[Text(" since "), Number(number)]),
+        Since::Before(number) => push_parts(text, &[Text(" since before "), Number(number)]),
+    }
+}
+
+/// Appends the end at which a process waits, what it does there, since when, and its descriptor.
+fn push_waiter(text: &mut String, wait: &Wait) -> Result<(), AllocError>
+    ensures { OnOk result (string_bytes text.new ≡ string_bytes text.old ++ waiter_part wait.now) }
+{
+    push_deed(text, wait)?;
+    push_since(text, wait.since)?;
+    push_parts(text, &[Text(" process "), Word(wait.waiter.process)])
+}
+
+/// The address of the last byte before the instruction at `at`.
 pub(crate) fn before(at: u32) -> u32
     ensures { result ≡ at - 1 }
 {
     at.saturating_sub(1)
 }
 
-/// Appends where a process goes on, and the instruction before that, in which it waits, if a map is there.
+/// Appends the address at which a process goes on. The map names the instruction before it, in which the process waits.
 fn push_resumes(
     text: &mut String,
     rows: &[MapRow<'_>],
@@ -160,7 +151,7 @@ fn push_resumes(
     }
 }
 
-/// Appends the line of a process that waits at the end of a link.
+/// Appends the line of a process that waits.
 fn push_wait(text: &mut String, rows: &[MapRow<'_>], wait: &Wait) -> Result<(), AllocError>
     ensures { OnOk result (string_bytes text.new ≡ string_bytes text.old ++ wait_line (rows_seen rows.now) wait.now) }
 {
@@ -189,7 +180,7 @@ fn push_link(text: &mut String, rows: &[MapRow<'_>], link: &LinkWaits) -> Result
     push_end(text, rows, &link.input)
 }
 
-/// Appends the lines of the processes that wait at links.
+/// Appends the lines of the processes that wait at some links.
 fn push_links(text: &mut String, rows: &[MapRow<'_>], links: &[LinkWaits]) -> Result<(), AllocError>
     ensures { OnOk result (string_bytes text.new ≡ string_bytes text.old ++ links_part (rows_seen rows.now) links.now) }
 {
@@ -199,42 +190,36 @@ fn push_links(text: &mut String, rows: &[MapRow<'_>], links: &[LinkWaits]) -> Re
     Ok(())
 }
 
-/// Appends which node it is.
+/// Appends the node's number, with which its line begins.
 fn push_name(text: &mut String, number: usize) -> Result<(), AllocError>
     ensures { OnOk result (string_bytes text.new ≡ string_bytes text.old ++ name_part number) }
 {
     push_parts(text, &[Text("node "), Number(number as u64)])
 }
 
-/// Appends the lines of a node.
+/// Appends a node's line, and those of its processes that wait at links.
 fn push_node(
     text: &mut String,
     scene: &Scene,
-    kept: &[Numbered],
     rows: &[MapRow<'_>],
     number: usize,
     own: &NodeSeen,
 ) -> Result<(), AllocError>
     requires { number < MAX_NODES }
-    ensures { OnOk result (string_bytes text.new ≡ string_bytes text.old ++ node_lines (seen_in scene.now) kept.now (rows_seen rows.now) number own.now) }
+    ensures { OnOk result (string_bytes text.new ≡ string_bytes text.old ++ node_lines (seen_in scene.now) (rows_seen rows.now) number own.now) }
 {
     push_name(text, number)?;
     push_doing(text, rows, own.doing)?;
-    push_last(text, last_of(scene, kept, number))?;
+    push_last(text, known_since(&scene.since, number).last)?;
     push_links(text, rows, &links_of(scene, number, own))
 }
 
-fn push_nodes(
-    text: &mut String,
-    scene: &Scene,
-    kept: &[Numbered],
-    maps: &NodeMaps<'_>,
-) -> Result<(), AllocError>
+fn push_nodes(text: &mut String, scene: &Scene, maps: &NodeMaps<'_>) -> Result<(), AllocError>
     requires { length scene.now.nodes.items ≤ MAX_NODES }
-    ensures { OnOk result (string_bytes text.new ≡ string_bytes text.old ++ nodes_lines (seen_in scene.now) kept.now (maps_seen maps.now) 0 scene.now.nodes.items) }
+    ensures { OnOk result (string_bytes text.new ≡ string_bytes text.old ++ nodes_lines (seen_in scene.now) (maps_seen maps.now) 0 scene.now.nodes.items) }
 {
     for (number, own) in scene.nodes.iter().enumerate() {
-        push_node(text, scene, kept, maps.of(number), number, own)?;
+        push_node(text, scene, maps.of(number), number, own)?;
     }
     Ok(())
 }
@@ -243,14 +228,13 @@ fn push_nodes(
 pub(crate) fn waits_text(
     alloc: Global,
     scene: &Scene,
-    kept: &[Numbered],
     maps: &NodeMaps<'_>,
 ) -> Result<String, AllocError>
     requires { length scene.now.nodes.items ≤ MAX_NODES }
-    ensures { IfOk result (λ text. string_bytes text ≡ waits_text (seen_in scene.now) kept.now (maps_seen maps.now)) }
+    ensures { IfOk result (λ text. string_bytes text ≡ waits_text (seen_in scene.now) (maps_seen maps.now)) }
 {
     let mut text = String::new(alloc);
-    push_nodes(&mut text, scene, kept, maps)?;
+    push_nodes(&mut text, scene, maps)?;
     push_sums(&mut text, scene)?;
     push_cycles(alloc, &mut text, scene)?;
     Ok(text)

@@ -8,4 +8,4 @@ returns-clause-is c =
     let nodes = c.in_ok-nodes_seen.ensures ∙ sym (map-map node_seen (λ node. node.live) c.nodes.result.now) ∙ ap (map node_seen) c.nodes.ensures in
     let fronts = c.in_ok-fronts_of.ensures ∙ ap (map (λ line. slice_get line 0)) c.lines.ensures in
     let ports = c.in_ok-ports_held.ensures ∙ sym (map-map port_held (λ port. port.port) c.ports.result.now) ∙ ap (map port_held) c.ports.ensures in
-    λ i. record { wires = c.in_ok-from_slice.ensures.items i; nodes = nodes i; fronts = fronts i; ports = ports i }
+    λ i. record { wires = c.in_ok-from_slice.ensures.items i; nodes = nodes i; fronts = fronts i; ports = ports i; since = c.new.ensures.items i }

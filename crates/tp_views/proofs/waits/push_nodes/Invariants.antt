@@ -6,5 +6,5 @@ use Rattle.tp_views.proofs.waits.push_nodes.Given as goal
 
 abbrev pub invariant-loop-number : goal.invariant-loop-number
 invariant-loop-number l =
-    string_bytes l.text ++ nodes_lines (seen_in l.fn.scene) l.fn.kept (maps_seen l.fn.maps) l.number (drop l.number l.fn.scene.nodes.items)
-    ≡ string_bytes l.fn.text ++ nodes_lines (seen_in l.fn.scene) l.fn.kept (maps_seen l.fn.maps) 0 l.fn.scene.nodes.items
+    string_bytes l.text ++ nodes_lines (seen_in l.fn.scene) (maps_seen l.fn.maps) l.number (drop l.number l.fn.scene.nodes.items)
+    ≡ string_bytes l.fn.text ++ nodes_lines (seen_in l.fn.scene) (maps_seen l.fn.maps) 0 l.fn.scene.nodes.items
