@@ -128,6 +128,7 @@ tpnet trace a.img --in 0=f
 # What is said of each, and the way out.
 tpnet trace a.img --map bad.map --explain
 tpnet trace a.img --map a.map --until send --explain
+tpnet trace a.img --watch 7FFFFFFF --explain
 tpnet trace a.img --in 0=none --explain
 # A file that isn't there is told before a map that is none, a map before a place, and a place before an image that is none.
 text text.img no image

@@ -60,7 +60,27 @@ fn push_place(
     Ok(true)
 }
 
-/// Says which place names no address: whether one does.
+/// Says that bytes below memory are to be watched, if they are: whether they are.
+fn push_below(
+    text: &mut String,
+    rows: &[MapRow<'_>],
+    watch: &Option<String>,
+) -> Result<bool, AllocError> {
+    let Some(place) = watch else {
+        return Ok(false);
+    };
+    if stops_at(TraceLines::Every, rows, None, Some(place.as_str()), 1).is_ok() {
+        return Ok(false);
+    }
+    let shown = Shown::all(place.as_str());
+    write!(
+        text,
+        "  {shown}: it is below 80000000, the first address of memory\n  Watch bytes from there on.\n"
+    )?;
+    Ok(true)
+}
+
+/// Says which place names no address, or none that can be watched: whether one does.
 fn push_places(
     alloc: Global,
     text: &mut String,
@@ -70,8 +90,10 @@ fn push_places(
     let Ok(rows) = read_map(alloc, map) else {
         return Ok(false);
     };
-    let is_said = push_place(text, rows.as_slice(), &trace.until)?;
-    Ok(is_said || push_place(text, rows.as_slice(), &trace.watch)?)
+    let rows = rows.as_slice();
+    Ok(push_place(text, rows, &trace.until)?
+        || push_place(text, rows, &trace.watch)?
+        || push_below(text, rows, &trace.watch)?)
 }
 
 /// Says what is wrong with the map of a trace, if it has one, or with its places: whether anything is.

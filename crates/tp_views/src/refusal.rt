@@ -50,7 +50,7 @@ pub enum Refusal {
     Memory,
     /// Another process writes the device so fast that it couldn't be read as it was at one moment.
     Busy,
-    /// What was typed as a place is neither an address nor a label of the map.
+    /// What was typed as a place is neither an address nor a label of the map, or it is to be watched and lies below memory.
     NoPlace,
     /// This line of a map, counted from 1, isn't one of a map.
     BadMap(MapFile, u64),

@@ -15,7 +15,7 @@ Nobody is at a link without --in: nothing comes in, what is sent is lost and nev
 Refusals (status 1):
   ReadFailed    IMAGE, the map or a file of --in can't be read: look at its path and its rights
   BadMap L      line L of the map is none of a map: make the map anew, by tools/assemble --map
-  NoPlace       PLACE is neither an address of eight digits with capital letters nor a label of the map
+  NoPlace       PLACE is neither an address of eight digits with capital letters nor a label of the map, or that of --watch is below 80000000
   BadImage      IMAGE is no node's image, or, with --turns, a link of it is at work: make it with tools/make-image
   DeviceFailed  standard output can't be written
   Memory        there is no memory left: take an image with fewer pages";
@@ -40,7 +40,7 @@ has a line without a number of its own. FILE may be run meanwhile.
 Refusals (status 1); nothing is written to FILE:
   ReadFailed    FILE, the map or a file of --in can't be read: look at its path and its rights
   BadMap L      line L of the map is none of a map (with I BadMap F L, line L of FOLDER/F): make the map anew, by tools/assemble --map
-  NoPlace       PLACE is neither an address of eight digits with capital letters nor a label of the map
+  NoPlace       PLACE is neither an address of eight digits with capital letters nor a label of the map, or that of --watch is below 80000000
   BadImage      without I: FILE is no node's image: make it with tools/make-image
   NotFormatted  with I: FILE is no device, and so each refusal of tpnet recover
   DeviceFailed  standard output can't be written
@@ -129,6 +129,7 @@ After it a line of each of its processes that waits at link K:
   out K sends     bytes of it aren't acknowledged;   in K inputs   bytes of it are still to come;
   in K chooses    it waits in an alternative that has enabled the link
   left L          how many bytes;   process W   its descriptor;   at A   the instruction at which it goes on
+  since N         the entry that left it in this wait; since before N: it is older than the entries after the checkpoint
   after L+N (F)   with --map: the instruction before A, in which it waits, by label, distance and place in the source
   to, from        the other end of the link's wire; after the colon, why it still waits:
     under way        a byte or an acknowledge is on the wire: it goes on once the nodes have turns
