@@ -219,7 +219,7 @@ fn push_opens(text: &mut String, device: &str) -> Result<(), AllocError> {
     let shown = Shown::all(device);
     write!(
         text,
-        "  {shown} opens now. Of Busy: another process writes it so fast that no moment of it could be read; try again, or stop that process.\n  Else standard output can't be written, or memory is wanting.\n"
+        "  {shown} opens now. Of DeviceFailed: standard output can't be written, as when what reads it has ended (head does early).\n  Of Busy: another process writes {shown} so fast that no moment of it could be read; try again, or stop that process. Else memory is wanting.\n"
     )
 }
 

@@ -19,7 +19,7 @@ pub(crate) fn push_image_rule(
     let shown = Shown::all(path);
     write!(
         text,
-        "  {shown}: {rule}\n  Make the image anew, by tools/make-image or docs/FORMATS.md, section 1.\n"
+        "  {shown}: {rule}\n  Make the image anew, by tools/assemble or tools/make-image: a line pages N of its source says how many it has.\n"
     )?;
     Ok(true)
 }
