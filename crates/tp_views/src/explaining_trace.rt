@@ -91,9 +91,11 @@ fn push_places(
         return Ok(false);
     };
     let rows = rows.as_slice();
-    Ok(push_place(text, rows, &trace.until)?
-        || push_place(text, rows, &trace.watch)?
-        || push_below(text, rows, &trace.watch)?)
+    Ok(
+        push_place(text, rows, &trace.until)?
+            || push_place(text, rows, &trace.watch)?
+            || push_below(text, rows, &trace.watch)?,
+    )
 }
 
 /// Says what is wrong with the map of a trace, if it has one, or with its places: whether anything is.
