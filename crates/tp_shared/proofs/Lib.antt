@@ -19,6 +19,7 @@ pub mod Copying
 pub mod Trims
 pub mod Closing
 pub mod Positioned
+pub mod HandedIn
 pub mod Keeping
 pub mod Gaining
 pub mod Seen

@@ -27,6 +27,7 @@ pub use Rattle.tp_model.specs.Order.{post, pre}
 unfoldable pub use Rattle.tp_model.specs.Order.{after, made}
 pub use Rattle.tp_model.specs.Runs.{HasCut, World, fresh, is_trim}
 pub use Rattle.tp_model.specs.Snapshot.{MarkedNetwork, Snapshot, has_recorded}
+pub use Rattle.tp_model.specs.Turn.{by_link}
 pub use Rattle.tp_model.specs.WholeCut.{IsWhole, WholeCut, all_some, count_in, trimmed}
 unfoldable pub use Rattle.tp_model.specs.WholeCut.{whole}
 pub use Rattle.tp_model.specs.declared.entry.Entry.{Entry}
@@ -50,7 +51,8 @@ pub use Rattle.tp_law_network.proofs.Shape.{mid_nodes}
 pub use Rattle.tp_law_network.proofs.Stays.{cut_stays, entries_grow, start_stays}
 pub use Rattle.tp_law_network.proofs.Whole.{all_counts, all_some-map, parts_recorded, running, whole_holds, whole_only, whole_parts}
 pub use Rattle.tp_law_network.specs.Invariant.{CutInvariant, as_recorded}
-pub use Rattle.tp_law_network.specs.Reserved.{IsNotOf}
+pub use Rattle.tp_law_network.specs.Reserved.{IsNotOf, turn_entries}
+pub use Rattle.tp_law_network.specs.Turns.{run_of}
 pub use Rattle.tp_law_device.proofs.Frozen.{frozen_as_stays}
 pub use Rattle.tp_node.specs.NodeContents.{NodeContents}
 pub use Rattle.tp_node.specs.Rest.{rest_of}

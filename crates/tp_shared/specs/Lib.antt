@@ -24,4 +24,5 @@ pub mod Pieces
 pub mod Thawed
 pub mod CopiedTail
 pub mod TrimmedTo
+pub mod HandedIn
 pub mod Together

@@ -29,21 +29,25 @@ pub record IsDealt (b : BookValue) (seals : List NodeSeal) (dealt : Dealt) (coun
   pub third : AreOfRow 12 13 14 15 (name_of seals) count dealt.row3
 
 -- The parts belong together: no take is made ready, and each node has a seal and a place. The roll has no entry yet. Both halves of what
--- the flusher is told have one name, and nothing of the book was seen.
-pub record AreParts {A : Type 0} (b : BookValue) (seals : List NodeSeal) (dealt : Dealt) (roll_first : ℕ) (all : List Entry) (told_seal told_key : ℕ) (sights : List A) : Type 0 where
+-- the flusher is told have one name, as do both halves of what the host hands in. The host has handed in nothing, and nothing of the book was
+-- seen.
+pub record AreParts {A : Type 0} (b : BookValue) (seals : List NodeSeal) (dealt : Dealt) (roll_first : ℕ) (all : List Entry) (told_seal told_key given_seal given_key : ℕ) (seal_entries key_entries : List Entry) (sights : List A) : Type 0 where
   pub idle : b.ready ≡ None
   pub runs : length b.runs ≡ length b.state.start.nodes
   pub shares : IsDealt b seals dealt (length b.state.start.nodes)
   pub tied : IsTied roll_first all b
   pub none : all ≡ []
   pub twins : told_seal ≡ told_key
+  pub host_twins : given_seal ≡ given_key
+  pub seal_shows : seal_entries ≡ []
+  pub key_shows : key_entries ≡ []
   pub unseen : sights ≡ []
 
 -- What contracts see of parts:
 -- - the book and the seals;
 -- - the name of the roll, the number of its first entry and its entries;
 -- - the mark;
--- - the names of what the flusher is told and of the roll of what is seen of the book.
+-- - the names of what the flusher is told, of what the host hands in and of the roll of what is seen of the book.
 pub record PartsValue : Type 0 where
   pub book : BookValue
   pub seals : List NodeSeal
@@ -52,4 +56,5 @@ pub record PartsValue : Type 0 where
   pub all : List Entry
   pub mark : MarkName
   pub flusher : ℕ
+  pub host : ℕ
   pub sights : ℕ

@@ -2,22 +2,25 @@
 -- - the nodes' cells, which have the keys of the seals;
 -- - the seats, whose slips are from the roll;
 -- - the flusher, which has the key of what it was told;
+-- - the host, which has the key of what it handed in;
 -- - the journal on the device.
 use Rattle.std.specs.Prelude.{◌≡◌, ◌≤◌, ◌+◌, ◌-◌, ◌*◌, ℕ, List, length, Option, None}
 use Rattle.tp_shared.specs.Lower.{Roll, Seal, Entry, NodeState, Network, World, BookValue}
 use Rattle.tp_shared.specs.BrokenSeen.{BrokenSince}
 use Rattle.tp_shared.specs.Frozen.{frozen_in}
+use Rattle.tp_shared.specs.HandedIn.{handed}
 use Rattle.tp_shared.specs.Positions.{IsNumberedFrom}
 use Rattle.tp_shared.specs.Seals.{Sealed, IsTied}
 use Rattle.tp_shared.specs.Thawed.{ThawedAsTold}
 use Rattle.tp_shared.specs.Told.{ToldSince, told_of}
+use Rattle.tp_shared.specs.declared.handed.Handed.{Handed}
 use Rattle.tp_shared.specs.declared.seal.NodeSeal.{NodeSeal}
 use Rattle.tp_shared.specs.declared.told.Told.{Told}
 
--- A book, the seals of its nodes, the roll, the seal of what the flusher was told, and the books that were seen, whenever nobody holds the
--- lock. The other arguments say which network, tokens and history they belong to.
-pub record AreTogether (roll_name first : ℕ) (start : Network NodeState) (node : ℕ → ℕ) (flusher : ℕ) (room : Option ℕ) (before : World NodeState)
-    (book : BookValue) (seals : List NodeSeal) (roll : Roll Entry) (told : Seal Told) (sights : List BookValue) : Type 0 where
+-- A book, the seals of its nodes, the roll, the seals of what the flusher was told and of what the host handed in, and the books that were
+-- seen, whenever nobody holds the lock. The other arguments say which network, tokens and history they belong to.
+pub record AreTogether (roll_name first : ℕ) (start : Network NodeState) (node : ℕ → ℕ) (flusher host : ℕ) (room : Option ℕ) (before : World NodeState)
+    (book : BookValue) (seals : List NodeSeal) (roll : Roll Entry) (told : Seal Told) (given : Seal Handed) (sights : List BookValue) : Type 0 where
   -- no take is made ready
   pub idle : book.ready ≡ None
   -- there is a seal for each node
@@ -52,5 +55,9 @@ pub record AreTogether (roll_name first : ℕ) (start : Network NodeState) (node
   pub numbered : IsNumberedFrom told.value.numbered_from book
   -- this position is at most the end of the entries that were told
   pub reaches : told.value.numbered_from ≤ told.value.base + length told.value.net.entries
+  -- the host has the key of this seal
+  pub host_is : given.name ≡ host
+  -- it shows what the host handed in since the opening
+  pub given_is : given.value.entries ≡ handed roll.items
   -- if it was seen broken, it is broken
   pub seen : BrokenSince book.broken sights

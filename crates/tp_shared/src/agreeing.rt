@@ -1,8 +1,10 @@
-//! What the flusher was told, compared with the book as it is.
+//! What the flusher was told and what the host handed in, compared with the book as it is.
 
 ghost use Rattle.std.specs.Prelude.{◌≡◌};
+ghost use Rattle.tp_shared.specs.HandedIn.{handed};
 ghost use Rattle.tp_shared.specs.Told.{ToldSince, told_of};
 
+use crate::host_key::HostKey;
 use crate::locked::Locked;
 use crate::naming::Naming;
 use crate::told::Told;
@@ -17,5 +19,13 @@ impl<J: Naming> Locked<J> {
         ensures since { ToldSince key.old.value (told_of J.before J.first self.old) }
     {
         agree(&mut self.told, key);
+    }
+
+    /// Proves that `host` shows all that was handed in since the opening. It changes nothing.
+    pub fn compare_host(&mut self, host: &mut HostKey<J>)
+        ensures same { (self.new ≡ self.old) × (host.new ≡ host.old) }
+        ensures all { handed self.old.all ≡ host.old }
+    {
+        agree(&mut self.given, &mut host.key);
     }
 }

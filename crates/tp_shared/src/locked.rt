@@ -10,6 +10,7 @@ ghost use Rattle.tp_shared.specs.Seals.{Sealed, IsTied, KeyShows, ShowsOpen, Sho
 ghost use Rattle.tp_shared.specs.Told.{told_of};
 ghost use Rattle.tp_shared.specs.Holds.{IsBookOf};
 
+use crate::handed::Handed;
 use crate::hold::{begin, commit};
 use crate::naming::Naming;
 use crate::place::Place;
@@ -29,7 +30,7 @@ use tp_turn::{Opened, Stretch};
 /// What is under the book's lock:
 /// - the book, and the seal of each node;
 /// - the roll of all entries since the opening;
-/// - the seal of what the flusher was told, and the roll of what was seen of the book.
+/// - the seals of what the flusher was told and of what the host handed in, and the roll of what was seen of the book.
 ///
 /// Contracts see the book and the roll of entries. They also see from which position on entries have their positions as numbers, and which
 /// nodes have kept pages, as they recorded.
@@ -39,6 +40,7 @@ pub struct Locked<J: Naming> {
     pub(crate) seals: Vec<NodeSeal>,
     pub(crate) roll: Roll<Entry>,
     pub(crate) told: Seal<Told>,
+    pub(crate) given: Seal<Handed>,
     pub(crate) sights: SightRoll<J>,
     of: PhantomData<J>,
 }
@@ -53,17 +55,18 @@ impl<J: Naming> Model for Locked<J> {
 
     ghost view = { λ l. record { book = l.book; all = l.roll.items; numbered_from = l.told.value.numbered_from; frozen = frozen_in l.seals.items } };
 
-    ghost invariant = { λ l. AreTogether J.roll J.first J.start J.node J.flusher J.room J.before l.book l.seals.items l.roll l.told (map (λ seen. seen.value) l.sights.roll.items) };
+    ghost invariant = { λ l. AreTogether J.roll J.first J.start J.node J.flusher J.host J.room J.before l.book l.seals.items l.roll l.told l.given (map (λ seen. seen.value) l.sights.roll.items) };
 }
 
 impl<J: Naming> Locked<J> {
-    /// Puts a book under the lock, with a seal for each node and the seal of what the flusher was told. The rolls of entries and of what is
-    /// seen are empty.
+    /// Puts a book under the lock, with a seal for each node and the seals of what the flusher was told and of what the host handed in, which
+    /// is nothing. The rolls of entries and of what is seen are empty.
     pub(crate) fn new(
         book: Book,
         seals: Vec<NodeSeal>,
         roll: Roll<Entry>,
         told: Seal<Told>,
+        given: Seal<Handed>,
         sights: SightRoll<J>,
     ) -> Locked<J>
         requires idle { book.ready ≡ None }
@@ -74,6 +77,7 @@ impl<J: Naming> Locked<J> {
         requires tied { IsTied J.first roll.items book }
         requires room { (book.room ≡ J.room) × (book.floor ≤ J.first - book.base) }
         requires told { (told.name ≡ J.flusher) × (told.value ≡ told_of J.before J.first (record { book = book; all = []; numbered_from = J.first; frozen = frozen_in seals.items })) }
+        requires given { (given.name ≡ J.host) × (given.value.entries ≡ []) }
         requires unseen { sights.roll.items ≡ [] }
         ensures { result ≡ record { book = book; all = []; numbered_from = J.first; frozen = frozen_in seals.items } }
     {
@@ -83,6 +87,7 @@ impl<J: Naming> Locked<J> {
             seals,
             roll,
             told,
+            given,
             sights,
             of: PhantomData,
         }

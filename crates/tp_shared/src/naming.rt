@@ -25,6 +25,9 @@ pub trait Naming {
     /// The name of the twin of what the flusher is told of the book.
     ghost flusher: { ℕ };
 
+    /// The name of the twin of what the host has handed in.
+    ghost host: { ℕ };
+
     /// The name of the roll of what is seen of the book under its lock.
     ghost sights: { ℕ };
 
@@ -50,6 +53,8 @@ impl Naming for Brand {
     ghost mark = { record { words = 1; slots = 0; views_name = 0; atom = 0; block = 0; offset = 0; slot_names = [] } };
 
     ghost flusher = { 0 };
+
+    ghost host = { 0 };
 
     ghost sights = { 0 };
 

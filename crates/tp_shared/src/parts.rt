@@ -6,6 +6,7 @@ ghost use Rattle.tp_shared.specs.Agreement.{at_rest};
 ghost use Rattle.tp_shared.specs.Parted.{AreOfOpened, IsDealt};
 
 use crate::dealt::Dealt;
+use crate::handed::Handed;
 use crate::place::Place;
 use crate::seal::NodeSeal;
 use crate::shown::Shown;
@@ -20,7 +21,7 @@ use tp_ready::Mark;
 use tp_token::{Key, Roll, Seal, pair, start, turn};
 
 /// What isn't under locks yet: a book, its nodes, their seals and keys, the roll of its entries, and the mark. Then both halves of what the
-/// flusher is told, and the roll of what is seen of the book.
+/// flusher is told and of what the host hands in, and the roll of what is seen of the book.
 #[derive(Drop)]
 pub struct Parts {
     pub(crate) book: Book,
@@ -30,6 +31,8 @@ pub struct Parts {
     pub(crate) mark: Mark,
     pub(crate) told: Seal<Told>,
     pub(crate) key: Key<Told>,
+    pub(crate) given: Seal<Handed>,
+    pub(crate) host: Key<Handed>,
     pub(crate) sights: Roll<Snapshot<Book>>,
 }
 
@@ -38,9 +41,9 @@ impl Model for Parts {
 
     ghost Value = { PartsValue };
 
-    ghost view = { λ p. record { book = p.book; seals = p.seals.items; roll = p.roll.name; first = p.roll.first; all = p.roll.items; mark = p.mark; flusher = p.told.name; sights = p.sights.name } };
+    ghost view = { λ p. record { book = p.book; seals = p.seals.items; roll = p.roll.name; first = p.roll.first; all = p.roll.items; mark = p.mark; flusher = p.told.name; host = p.given.name; sights = p.sights.name } };
 
-    ghost invariant = { λ p. AreParts p.book p.seals.items p.dealt p.roll.first p.roll.items p.told.name p.key.name p.sights.items };
+    ghost invariant = { λ p. AreParts p.book p.seals.items p.dealt p.roll.first p.roll.items p.told.name p.key.name p.given.name p.host.name p.given.value.entries p.host.value.entries p.sights.items };
 }
 
 // Makes a node's seal and key.
@@ -106,6 +109,7 @@ impl Parts {
         let (seals, dealt) = deal(alloc, &book, nodes)?;
         let roll = start::<Entry>(book.next());
         let (told, key) = pair::<Told>();
+        let (given, host) = pair::<Handed>();
         let sights = start::<Snapshot<Book>>(0);
         Ok(Parts {
             book,
@@ -115,6 +119,8 @@ impl Parts {
             mark,
             told,
             key,
+            given,
+            host,
             sights,
         })
     }

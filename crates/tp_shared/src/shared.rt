@@ -14,6 +14,7 @@ ghost use Rattle.tp_shared.specs.TurnsMade.{TurnBrokenOff, HostTurnMade, TurnMad
 
 use crate::cells::{CELLS, ROW, in_row};
 use crate::gate::{COMMITTED, Gate};
+use crate::host_key::HostKey;
 use crate::locked::Locked;
 use crate::naming::Naming;
 use crate::node_turn::NodeTurn;
@@ -62,13 +63,14 @@ pub struct Shared<J: Naming> {
 }
 
 impl<J: Naming> Shared<J> {
-    /// Puts `parts` under locks. The names are those of `parts`: the caller picks them. The key is the flusher's, and shows what is told of
-    /// the book as it is.
-    pub fn start(parts: Parts) -> (Shared<J>, Key<Told>)
-        requires { Names J.roll J.first J.start J.node J.mark J.flusher J.sights J.room parts }
+    /// Puts `parts` under locks. The names are those of `parts`: the caller picks them. The first key is the flusher's, and shows what is told
+    /// of the book as it is. The other is the host's, and shows that nothing was handed in.
+    pub fn start(parts: Parts) -> (Shared<J>, Key<Told>, HostKey<J>)
+        requires { Names J.roll J.first J.start J.node J.mark J.flusher J.host J.sights J.room parts }
         ensures first { J.first ≡ parts.first }
         ensures room { J.room ≡ parts.book.room }
         ensures key { (result.1.name ≡ J.flusher) × (result.1.value ≡ told_of J.before J.first (record { book = parts.book; all = []; numbered_from = J.first; frozen = frozen_in parts.seals })) }
+        ensures host { result.2 ≡ [] }
     {
         let now = Told::first::<J>(&parts);
         parts.book.known();
@@ -82,11 +84,13 @@ impl<J: Naming> Shared<J> {
             mark,
             mut told,
             mut key,
+            given,
+            host,
             sights,
         } = parts;
         turn(&mut told, &mut key, &now);
         let shared = Shared {
-            book: Mutex::new(Locked::new(book, seals, roll, told, SightRoll::over(sights))),
+            book: Mutex::new(Locked::new(book, seals, roll, told, given, SightRoll::over(sights))),
             row0: Row::new(dealt.row0),
             row1: Row::new(dealt.row1),
             row2: Row::new(dealt.row2),
@@ -95,7 +99,7 @@ impl<J: Naming> Shared<J> {
             nodes,
             ports,
         };
-        (shared, key)
+        (shared, key, HostKey::over(host))
     }
 
     /// Makes a seat without a slip. Threads that share the network can't call this.

@@ -1,4 +1,4 @@
-use Rattle.std.proofs.Common.{◌∙◌, ◌<◌, length, set, ap, sym, subst, arith, Some}
+use Rattle.std.proofs.Common.{◌∙◌, ◌<◌, length, set, ap, refl, sym, subst, arith, Some}
 use Rattle.std.specs.Prelude.{is_some}
 use Rattle.tp_shared.proofs.Lower.{length-set, world_of, IsNodeOf, moment_of, OpensIn}
 use Rattle.tp_shared.specs.Agreement.{Agreement, answered_with}
@@ -9,11 +9,12 @@ use Rattle.tp_shared.specs.Gains.{HoldNoted}
 use Rattle.tp_shared.specs.Holds.{IsBookOf}
 use Rattle.tp_shared.specs.declared.seal.NodeSeal.{NodeSeal}
 use Rattle.tp_shared.proofs.Gone.{gone_set, recorded_as}
+use Rattle.tp_shared.proofs.HandedIn.{handed_opening}
 use Rattle.tp_shared.proofs.Holding.{acted_like, answered_form, opened_like}
 use Rattle.tp_shared.proofs.Sealing.{answered_seal, answered_shows, node_of_seal, noted_by, reserved_after, sealed_after}
 use Rattle.tp_shared.proofs.Thawing.{thaws_set, thawed_at, thawed_recorded}
 use Rattle.tp_shared.proofs.Writing.{as_many}
-use Rattle.tp_shared.proofs.Keeping.{seal_at, acted_written}
+use Rattle.tp_shared.proofs.Keeping.{seal_at, acted_written, given_still}
 use Rattle.tp_shared.proofs.locked.Locked.begin.Goals as goal
 
 pub agree-requires : goal.agree-requires
@@ -88,7 +89,8 @@ invariant_of-self g c =
     ∙ ap (λ (x : Agreement). is_some x.frozen) (sym (ap (λ x. x.state) c.agree.ensures.agreed ∙ c.requires.shows.shown))
     ∙ sym S.flag
     ∙ none))
-    c.write_new.ensures.names.0 c.write_new.ensures.first c.write_new.ensures.roll
+    c.write_new.ensures.names.0 c.write_new.ensures.first c.write_new.ensures.roll refl
+    (given_still inv A.grown (length c.entries-before.result.now) (as_many c.entries-before.result.now b.state.entries c.entries-before.ensures.entries) c.write_new.ensures.roll (handed_opening b.state.start c.args.number done _ A.grown.are))
 
 pub returns-clause-shows : goal.returns-clause-shows
 returns-clause-shows g c =

@@ -3,15 +3,17 @@ use Rattle.std.specs.Prelude.{is_some}
 use Rattle.tp_shared.proofs.Lower.{length-set, Entry, NodeContents, world_of, without_run, Added, opened_acts, opened_entries, turned_by}
 use Rattle.tp_shared.specs.Agreement.{Agreement, at_rest}
 use Rattle.tp_shared.specs.Frozen.{frozen_in}
+use Rattle.tp_shared.specs.HandedIn.{handed}
 use Rattle.tp_shared.specs.Seals.{Stage}
 use Rattle.tp_shared.specs.Gains.{HoldNoted}
 use Rattle.tp_shared.specs.Holds.{IsBookOf}
 use Rattle.tp_shared.specs.declared.seal.NodeSeal.{NodeSeal}
 use Rattle.tp_shared.proofs.Gone.{gone_set}
+use Rattle.tp_shared.proofs.HandedIn.{handed_commit}
 use Rattle.tp_shared.proofs.Sealing.{node_of_seal, noted_by, reserved_after, rest_seal, sealed_after}
 use Rattle.tp_shared.proofs.Thawing.{thaws_set, thawed_at}
 use Rattle.tp_shared.proofs.Writing.{as_many}
-use Rattle.tp_shared.proofs.Keeping.{seal_at, acted_written}
+use Rattle.tp_shared.proofs.Keeping.{seal_at, acted_written, given_still}
 use Rattle.tp_shared.proofs.locked.Locked.commit.Goals as goal
 
 pub agree-requires : goal.agree-requires
@@ -76,7 +78,9 @@ invariant_of-self g c =
     (c.turn.ensures.names.0 ∙ c.agree.ensures.names.0 ∙ S.named) (ap (λ x. x.state) c.turn.ensures.seal ∙ c.free-now.ensures) flag))
     (thaws_set c.self.inside.told.value seals c.args.number now inv.thawed (λ thawed. thawed_at c.self.inside.told.value seals c.args.number here thawed at))
     (gone_set (world_of b) seals c.args.number here now at (λ n F none. none))
-    c.write_new.ensures.names.0 c.write_new.ensures.first c.write_new.ensures.roll
+    c.write_new.ensures.names.0 c.write_new.ensures.first c.write_new.ensures.roll refl
+    (given_still inv A.grown (length c.entries-before.result.now) (as_many c.entries-before.result.now b.state.entries c.entries-before.ensures.entries) c.write_new.ensures.roll
+    (ap handed A.grown.are ∙ handed_commit c.args.number c.args.opened c.args.stretch.ran.count))
 
 pub returns-clause-noted : goal.returns-clause-noted
 returns-clause-noted g c =

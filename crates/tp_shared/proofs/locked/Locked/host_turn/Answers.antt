@@ -1,4 +1,4 @@
-use Rattle.std.proofs.Common.{length, subst}
+use Rattle.std.proofs.Common.{length, refl, subst}
 use Rattle.tp_turn.specs.Hosted.{HostDone, HostTurns}
 use Rattle.tp_shared.specs.BookActs.{HostActed}
 use Rattle.tp_shared.specs.Entries.{TakesOf}
@@ -6,11 +6,12 @@ use Rattle.tp_shared.specs.Frozen.{frozen_in}
 use Rattle.tp_shared.specs.Seals.{Stage}
 use Rattle.tp_shared.specs.Gains.{HoldNoted}
 use Rattle.tp_shared.specs.Holds.{IsBookOf}
+use Rattle.tp_shared.proofs.HandedIn.{handed_turn}
 use Rattle.tp_shared.proofs.Holding.{grown_like, takes_of_like}
 use Rattle.tp_shared.proofs.Hosting.{hosted_turn, host_refused}
 use Rattle.tp_shared.proofs.Sealing.{noted_by}
 use Rattle.tp_shared.proofs.Writing.{as_many}
-use Rattle.tp_shared.proofs.Keeping.{hosted_written}
+use Rattle.tp_shared.proofs.Keeping.{given_still, hosted_written}
 use Rattle.tp_shared.proofs.locked.Locked.host_turn.Goals as goal
 
 pub invariant_of-self : goal.invariant_of-self
@@ -19,7 +20,9 @@ invariant_of-self g c =
     let new = c.host_turn-done.new.book in
     let H = hosted_turn c.host_turn-done.result b new c.host_turn-done.ensures in
     hosted_written c.self.invariant c.entries-before.result.now c.entries-before.ensures.entries c.entries-before.ensures.numbers H
-    c.write_new.ensures.names.0 c.write_new.ensures.first c.write_new.ensures.roll
+    c.write_new.ensures.names.0 c.write_new.ensures.first c.write_new.ensures.roll refl
+    (given_still c.self.invariant H.grown (length c.entries-before.result.now) (as_many c.entries-before.result.now b.state.entries c.entries-before.ensures.entries) c.write_new.ensures.roll
+    (handed_turn b.state.start (length b.state.start.nodes) c.host_turn-done.result _ H.grown.are))
 
 pub returns-clause-noted : goal.returns-clause-noted
 returns-clause-noted g c =

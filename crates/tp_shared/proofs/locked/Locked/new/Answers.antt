@@ -1,6 +1,7 @@
 use Rattle.std.proofs.Common.{◌≡◌, ◌+◌, ◌≤◌, List, length, sym, ap, subst, ◌∙◌, arith}
 use Rattle.tp_shared.proofs.Lower.{Entry, next_in_book}
 use Rattle.tp_shared.specs.Frozen.{frozen_in}
+use Rattle.tp_shared.specs.HandedIn.{handed}
 use Rattle.tp_shared.specs.Positions.{IsNumberedFrom}
 use Rattle.tp_shared.specs.Told.{ToldSince, told_of}
 use Rattle.tp_shared.specs.declared.told.Told.{Told}
@@ -35,5 +36,7 @@ invariant_of-result g c =
       thawed = thaws_none c.args.told.value c.args.seals.items (ap (λ (t : Told). t.thawed) is);
       numbered = subst (λ (t : Told). IsNumberedFrom t.numbered_from c.args.book) (sym is) (positions_below g.J.Naming.first c.args.book.base c.args.book.numbers (omega (arith, many, last)));
       reaches = subst (λ (t : Told). t.numbered_from ≤ t.base + length t.net.entries) (sym is) (omega (arith, last));
+      host_is = c.requires.given.0;
+      given_is = c.requires.given.1 ∙ ap handed (sym c.requires.roll.2);
       seen = seen_none _ _ _ c.requires.unseen;
     }
