@@ -1,6 +1,6 @@
 //! Sessions of the host.
 
-ghost use Rattle.std.specs.Prelude.{◌≡◌, ◌<◌, ◌≤◌, ◌⊎◌, ◌∷◌, [], ◌↔◌, IsTrue, length, map, Some, None, IsSome, IfSome, IfOk, IfErr, MatchResult};
+ghost use Rattle.std.specs.Prelude.{◌≡◌, ◌<◌, ◌≤◌, ◌⊎◌, ◌∷◌, ◌++◌, [], ◌↔◌, IsTrue, length, map, Some, None, IsSome, IfSome, IfOk, IfErr, OnErr, MatchResult};
 ghost use Rattle.tp_work.specs.Lower.{HostIn, Confirm, RisesOn, number_of, in_hand};
 ghost use Rattle.tp_work.specs.Receipts.{IsFor};
 ghost use Rattle.tp_work.specs.Offers.{IsReason};
@@ -12,7 +12,7 @@ use std::alloc::Global;
 use std::sync::Wait;
 use tp_book::Receipt;
 use tp_ready::Pass;
-use tp_shared::{Naming, Seat, Shared, Sights};
+use tp_shared::{HostKey, Naming, Seat, Shared, Sights};
 
 /// What the host does at one port of a network in threads.
 #[derive(Drop)]
@@ -36,22 +36,25 @@ impl<'a, J: Naming> Session<'a, J> {
     }
 
     /// Hands bytes to the port: all of them, or none if the offer fails. The first of them must be the next one that the port accepts.
-    /// `seat` gets the slips of their entries, and `seen` the book before and after that.
+    /// `seat` gets the slips of their entries, `host` shows them, and `seen` gets the book before and after that.
     pub fn offer<R: Wait>(
         &self,
         rt: &R,
         at: u64,
         bytes: &[u8],
         seat: &mut Seat<J>,
+        host: &mut HostKey<J>,
         seen: &mut Sights<J>,
     ) -> Result<Receipt, OfferFault>
         ensures offered { OfferedIn J.start self.now.port at bytes.now result (in_hand seen.old seat.old) (in_hand seen.new seat.new) }
+        ensures handed { IfOk result (λ receipt. host.new ≡ host.old ++ map (HostIn self.now.port) bytes.now) }
+        ensures kept { OnErr result (host.new ≡ host.old) }
         ensures receipt { IfOk result (IsFor (map (HostIn self.now.port) bytes.now) seat.old seat.new) }
         ensures position { IfOk result (λ receipt. receipt.position ≡ Some at) }
         ensures reason { IfErr result (IsReason at (length bytes.now)) }
     {
         let mut held = self.shared.book().lock(rt);
-        offer_seen(&mut held, self.port, at, bytes, seat, seen)
+        offer_seen(&mut held, self.port, at, bytes, seat, host, seen)
     }
 
     /// Whether all that a receipt is for is on the device. If so, it stays true for `pass`.
@@ -89,17 +92,20 @@ impl<'a, J: Naming> Session<'a, J> {
     }
 
     /// Journals that the host has the port's outputs up to the position `upto`, and drops them. They must be shown, by the mark that `pass`
-    /// loads. `seat` gets the entry's slip, and `seen` the book before and after that.
+    /// loads. `seat` gets the entry's slip, `host` shows the entry, and `seen` gets the book before and after that.
     pub fn confirm<R: Wait>(
         &self,
         rt: &R,
         upto: u64,
         pass: &mut Pass,
         seat: &mut Seat<J>,
+        host: &mut HostKey<J>,
         seen: &mut Sights<J>,
     ) -> Result<Receipt, ConfirmFault>
         requires { pass.old.mark ≡ J.mark }
         ensures confirmed { ConfirmedIn J.start self.now.port pass.new.at upto result (in_hand seen.old seat.old) (in_hand seen.new seat.new) }
+        ensures handed { IfOk result (λ receipt. (host.new ≡ host.old) ⊎ (host.new ≡ host.old ++ Confirm self.now.port upto ∷ [])) }
+        ensures kept { OnErr result (host.new ≡ host.old) }
         ensures receipt { IfOk result (λ receipt. IsFor [] seat.old seat.new receipt ⊎ IsFor (Confirm self.now.port upto ∷ []) seat.old seat.new receipt) }
         ensures pass { pass.new ≡ record pass.old { at = pass.new.at; rises = pass.new.rises } }
         ensures rises { pass.old.at ≤ pass.new.at }
@@ -108,6 +114,6 @@ impl<'a, J: Naming> Session<'a, J> {
     {
         let mark = self.shared.mark().load(pass);
         let mut held = self.shared.book().lock(rt);
-        confirm_seen(&mut held, self.port, mark, upto, seat, seen)
+        confirm_seen(&mut held, self.port, mark, upto, seat, host, seen)
     }
 }

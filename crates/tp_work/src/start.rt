@@ -10,7 +10,7 @@ use std::alloc::{AllocError, Global};
 use std::sync::Wait;
 use tp_node::Runs;
 use tp_ready::{Answers, Hand, ReadyQueue};
-use tp_shared::{Gate, Naming, Parts, Shared, Sights, Told};
+use tp_shared::{Gate, HostKey, Naming, Parts, Shared, Sights, Told};
 use tp_token::Key;
 
 /// The most seats of a network.
@@ -44,7 +44,8 @@ fn seats_of<J: Naming>(
 
 impl<J: Naming, G: Gate + Drop> Net<J, G> {
     /// Puts `parts` under locks, fills the ready queue with the numbers of all processes, the nodes' in order and then the host's, and
-    /// makes `seats` seats. A node's turn may have `quantum` steps. The key is the flusher's, and shows what is told of the book as it is.
+    /// makes `seats` seats. A node's turn may have `quantum` steps. The first key is the flusher's, and shows what is told of the book as it
+    /// is. The other is the host's, and shows that nothing was handed in.
     #[inline(never)]
     pub fn start<R: Wait>(
         rt: &R,
@@ -53,8 +54,8 @@ impl<J: Naming, G: Gate + Drop> Net<J, G> {
         quantum: u16,
         seats: u8,
         gate: G,
-    ) -> Result<(Net<J, G>, Vec<Seat<J>>, Key<Told>), AllocError>
-        requires names { Names J.roll J.first J.start J.node J.mark J.flusher J.sights J.room parts }
+    ) -> Result<(Net<J, G>, Vec<Seat<J>>, Key<Told>, HostKey<J>), AllocError>
+        requires names { Names J.roll J.first J.start J.node J.mark J.flusher J.host J.sights J.room parts }
         requires quantum { (0 < quantum) × (quantum ≤ MAX_STEPS) }
         requires seats { (0 < seats) × (seats ≤ MAX_SEATS) }
         ensures quantum { IfOk result (λ started. started.0.quantum ≡ quantum) }
@@ -62,8 +63,9 @@ impl<J: Naming, G: Gate + Drop> Net<J, G> {
         ensures seats { IfOk result (λ started. All (λ seat. (seat.hand.of ≡ Some started.0.queue) × (seat.slips ≡ [])) started.1.items) }
         ensures new { IfOk result (λ started. All (λ seat. IsNew seat.hand.past) started.1.items) }
         ensures key { IfOk result (λ started. (started.2.name ≡ J.flusher) × (started.2.value ≡ told_of J.before J.first (record { book = parts.book; all = []; numbered_from = J.first; frozen = frozen_in parts.seals }))) }
+        ensures host { IfOk result (λ started. started.3 ≡ []) }
     {
-        let (mut shared, key) = Shared::start(parts);
+        let (mut shared, key, host) = Shared::start(parts);
         let (queue, hands) = ReadyQueue::start(rt, alloc, shared.nodes(), seats)?;
         let seats = seats_of(alloc, &mut shared, hands)?;
         let net = Net {
@@ -72,6 +74,6 @@ impl<J: Naming, G: Gate + Drop> Net<J, G> {
             quantum,
             gate,
         };
-        Ok((net, seats, key))
+        Ok((net, seats, key, host))
     }
 }

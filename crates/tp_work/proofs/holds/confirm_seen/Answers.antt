@@ -1,6 +1,6 @@
-use Rattle.std.proofs.Common.{[], ◌∷◌, ◌++◌, sym, ap, ◌∙◌}
+use Rattle.std.proofs.Common.{◌≡◌, [], ◌∷◌, ◌++◌, sym, ap, ◌∙◌}
 use Rattle.tp_work.proofs.Lower.{confirm_entries, after_confirm, confirm_receipt, Stage}
-use Rattle.tp_work.proofs.Sessions.{did_just, has_port, seen_twice}
+use Rattle.tp_work.proofs.Sessions.{did_just, handed_confirmed, has_port, seen_twice}
 use Rattle.tp_work.proofs.holds.confirm_seen.Goals as goal
 
 pub returns-clause-confirmed : goal.returns-clause-confirmed
@@ -19,6 +19,9 @@ returns-clause-confirmed g c =
       exact = E.answer;
       nothing = E.nothing;
       did =
-          did_just c.confirm-done.result g.J.Naming.first found left (after_confirm found.book c.args.port c.args.upto) (confirm_receipt found.book c.args.port c.args.upto) (confirm_entries found.book c.args.port c.args.upto)
+          did_just (c.confirm-done.new.host ≡ c.args.host.now) c.confirm-done.result g.J.Naming.first found left (after_confirm found.book c.args.port c.args.upto) (confirm_receipt found.book c.args.port c.args.upto) (confirm_entries found.book c.args.port c.args.upto)
           c.args.seat.now c.confirm-done.new.seat E.book E.given E.number E.noted E.err K.tied;
     }
+
+pub returns-clause-handed : goal.returns-clause-handed
+returns-clause-handed g c = handed_confirmed c.confirm-done.result c.show.new.self.book c.args.port c.args.upto c.args.host.now c.confirm-done.new.host c.confirm-done.ensures.handed

@@ -1,4 +1,4 @@
-use Rattle.std.proofs.Common.{[], ◌∷◌, ◌++◌, map, sym, ap, ◌∙◌}
+use Rattle.std.proofs.Common.{◌≡◌, [], ◌∷◌, ◌++◌, map, sym, ap, ◌∙◌}
 use Rattle.tp_work.proofs.Lower.{HostIn, after_inputs, input_receipt, Stage}
 use Rattle.tp_work.proofs.Sessions.{did_just, has_port, seen_twice}
 use Rattle.tp_work.proofs.holds.offer_seen.Goals as goal
@@ -19,6 +19,6 @@ returns-clause-offered g c =
       exact = E.answer;
       nothing = E.nothing;
       did =
-          did_just c.offer-done.result g.J.Naming.first found left (after_inputs found.book c.args.port c.args.bytes.now) (input_receipt found.book c.args.port c.args.bytes.now) (map (HostIn c.args.port) c.args.bytes.now)
+          did_just (c.offer-done.new.host ≡ c.args.host.now) c.offer-done.result g.J.Naming.first found left (after_inputs found.book c.args.port c.args.bytes.now) (input_receipt found.book c.args.port c.args.bytes.now) (map (HostIn c.args.port) c.args.bytes.now)
           c.args.seat.now c.offer-done.new.seat E.book E.given E.number E.noted E.err K.tied;
     }
