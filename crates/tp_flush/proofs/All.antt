@@ -1,11 +1,11 @@
 -- All slips since the opening compared with the flusher's journal.
-use Rattle.std.proofs.Common.{◌≡◌, ℕ, ◌+◌, ◌≤◌, List, [], ◌∷◌, ◌++◌, length, take, refl, sym, ap, subst, ◌∙◌, arith, length-append, append-nil}
+use Rattle.std.proofs.Common.{◌≡◌, ℕ, ◌+◌, ◌≤◌, List, [], ◌∷◌, ◌++◌, length, take, sym, ap, ◌∙◌, arith, length-append, append-nil}
 use Rattle.std.specs.Prelude.{drop}
-use Rattle.tp_flush.proofs.Lower.{drop-append_seam, Entry, NodeState, Network, MarkedNetwork, World, item_of, shown, next_in_book, Told, Stage, IsTied, IsFirst, ToldSince, told_of, told_journal}
+use Rattle.tp_flush.proofs.Lower.{drop-append_seam, Entry, NodeState, Network, World, item_of, shown, next_in_book, Told, Stage, IsTied, IsFirst, ToldSince, told_of}
 use Rattle.tp_flush.specs.All.{AreAll}
 use Rattle.tp_flush.specs.Known.{Reached}
 use Rattle.tp_flush.proofs.Ahead.{book_ahead}
-use Rattle.tp_flush.proofs.Settling.{length-journal}
+use Rattle.tp_flush.proofs.Settling.{journal_join, length-journal}
 
 none_more : {X : Type 0} (front more : List X) → length (front ++ more) ≤ length front → front ++ more ≡ front
 none_more front [] h = append-nil front
@@ -17,23 +17,16 @@ pub slips_are_all : (start : Network NodeState) (before : World NodeState) (firs
     → AreAll first (next_in_book stage.book) w.journal slips
 slips_are_all start before first stage key w slips R F S T stored each =
     let front = take first before.journal in
-    let J = told_journal before first key stage S in
+    let J = journal_join before first stage key w F S T (length-journal start w R) in
     let A = book_ahead start before first stage key w R F S in
-    let both : front ++ stage.all ≡ w.journal ++ J.0 = J.2 ∙ ap (λ es. es ++ J.0) F.journal in
-    let long = length-journal start w R in
+    let both : front ++ stage.all ≡ w.journal ++ J.more = J.both in
     let lengths = ap length both in
     let left = length-append front stage.all in
-    let right = length-append w.journal J.0 in
-    let entries = ap length J.1 in
-    let kept = length-append key.net.entries J.0 in
-    let net = ap (λ (n : MarkedNetwork NodeState). length n.entries) F.net in
     let next = T.next in
-    let base = S.base in
-    let begun = F.base in
     let marked = A.marked in
-    let many : length front ≡ first = omega (arith, lengths, left, right, entries, kept, net, next, base, begun, long) in
-    let few : length (w.journal ++ J.0) ≤ length w.journal = omega (arith, lengths, left, many, next, stored, marked) in
-    let none : w.journal ++ J.0 ≡ w.journal = none_more w.journal J.0 few in
+    let many : length front ≡ first = sym J.many in
+    let few : length (w.journal ++ J.more) ≤ length w.journal = omega (arith, lengths, left, many, next, stored, marked) in
+    let none : w.journal ++ J.more ≡ w.journal = none_more w.journal J.more few in
     let is : w.journal ≡ front ++ stage.all = sym none ∙ sym both in
     record {
       count = ap length is ∙ left ∙ ap (λ n. n + length stage.all) many ∙ next;

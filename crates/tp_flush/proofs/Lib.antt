@@ -17,6 +17,7 @@ mod Devices
 mod Standing
 mod Beside
 pub mod Settling
+mod Handing
 pub mod All
 mod Ahead
 mod Switches

@@ -121,10 +121,12 @@ pub use Rattle.tp_token.specs.Sound.{Sound, item_of, shown}
 pub use Rattle.tp_ready.specs.Seen.{RaiserValue, RisesOn, risen, unrisen}
 pub use Rattle.tp_ready.specs.declared.mark_view.Rise.{Rise}
 pub use Rattle.tp_shared.proofs.Gone.{frozen_since}
+pub use Rattle.tp_shared.proofs.HandedIn.{handed-append}
 pub use Rattle.tp_shared.proofs.Telling.{told_journal}
 pub use Rattle.tp_shared.specs.Below.{AreBelow}
 pub use Rattle.tp_shared.specs.CopiedTail.{CopiedTail}
 pub use Rattle.tp_shared.specs.Frozen.{none_kept}
+pub use Rattle.tp_shared.specs.HandedIn.{handed}
 pub use Rattle.tp_shared.specs.Parted.{PartsValue}
 pub use Rattle.tp_shared.specs.Pieces.{AreFrozenPages, IsFrozenHead, IsFrozenPage}
 pub use Rattle.tp_shared.specs.Seals.{IsTied, Stage}

@@ -22,6 +22,32 @@ length-journal start w R =
     let O = (reached_holds start w R).order in
     omega (arith, reorder-length t414 start w.journal (O.inside ++ w.net.entries) O.order, length-append O.inside w.net.entries, O.count)
 
+-- ## The journal and the book
+
+-- Since the opening the book has what the journal has, and some entries after it. Before it there are as many as the first number says.
+pub record JournalJoin (before : World NodeState) (first : ℕ) (all journal : List Entry) : Type 0 where
+  pub more : List Entry
+  pub both : take first before.journal ++ all ≡ journal ++ more
+  pub many : first ≡ length (take first before.journal)
+
+pub journal_join : (before : World NodeState) (first : ℕ) (stage : Stage) (key : Told) (w : World NodeState) → IsFirst key w → ToldSince key (told_of before first stage) → IsTied first stage.all stage.book
+    → length w.journal ≡ w.base + length w.net.entries → JournalJoin before first stage.all w.journal
+journal_join before first stage key w F S T long =
+    let front = take first before.journal in
+    let J = told_journal before first key stage S in
+    let more = J.0 in
+    let both : front ++ stage.all ≡ w.journal ++ more = J.2 ∙ ap (λ es. es ++ more) F.journal in
+    let lengths = ap length both in
+    let left = length-append front stage.all in
+    let right = length-append w.journal more in
+    let entries = ap length J.1 in
+    let kept = length-append key.net.entries more in
+    let net = ap (λ (n : MarkedNetwork NodeState). length n.entries) F.net in
+    let next = T.next in
+    let base = S.base in
+    let begun = F.base in
+    record { more = more; both = both; many = omega (arith, lengths, left, right, entries, kept, net, next, base, begun, long) }
+
 -- ## A slip's entry
 
 behind_front : {V : Type 0} (front items : List V) (n : ℕ) (v : V) → item_of (length front) items n ≡ v ∷ [] → slice_get (front ++ items) n ≡ Some v
@@ -54,21 +80,8 @@ stand_in journal front items more (slip ∷ slips) both sound = (
 pub slips_stand : (before : World NodeState) (first : ℕ) (stage : Stage) (key : Told) (w : World NodeState) (slips : List (ℕ × Entry)) → IsFirst key w → ToldSince key (told_of before first stage)
     → IsTied first stage.all stage.book → length w.journal ≡ w.base + length w.net.entries → Sound (item_of first stage.all) slips → SlipsStand w.journal slips
 slips_stand before first stage key w slips F S T long sound =
-    let front = take first before.journal in
-    let J = told_journal before first key stage S in
-    let more = J.0 in
-    let both : front ++ stage.all ≡ w.journal ++ more = J.2 ∙ ap (λ es. es ++ more) F.journal in
-    let lengths = ap length both in
-    let left = length-append front stage.all in
-    let right = length-append w.journal more in
-    let entries = ap length J.1 in
-    let kept = length-append key.net.entries more in
-    let net = ap (λ (n : MarkedNetwork NodeState). length n.entries) F.net in
-    let next = T.next in
-    let base = S.base in
-    let begun = F.base in
-    let many : first ≡ length front = omega (arith, lengths, left, right, entries, kept, net, next, base, begun, long) in
-    stand_in w.journal front stage.all more slips both (subst (λ n. Sound (item_of n stage.all) slips) many sound)
+    let J = journal_join before first stage key w F S T long in
+    stand_in w.journal (take first before.journal) stage.all J.more slips J.both (subst (λ n. Sound (item_of n stage.all) slips) J.many sound)
 
 -- ## Some of them
 

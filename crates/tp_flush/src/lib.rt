@@ -19,6 +19,7 @@ mod progress;
 mod raising;
 mod settle;
 mod settle_all;
+mod settle_host;
 mod snapshot;
 mod stored_mark;
 mod switching;
