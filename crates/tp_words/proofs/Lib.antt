@@ -3,6 +3,7 @@ pub mod Faults
 pub mod OfEnds
 pub mod OfNumbers
 pub mod Refused
+pub mod OfSizes
 pub mod Standard
 pub mod StreamFaults
 pub mod Texts

@@ -1,10 +1,10 @@
 -- What is wrong with ends is never told as what is wrong with one of the texts that were typed.
 use Rattle.std.proofs.Common.{◌≡◌, ℕ, Bool, true, false, Option, Some, None, List, [], ◌∷◌, refl, sym, subst, nat_lt}
 use Rattle.std.specs.Prelude.{if◌then◌else◌}
-use Rattle.tp_words.proofs.Lower.{option_or, Global, String, ArgMatches, standard_port, Ends, PortNumber}
+use Rattle.tp_words.proofs.Lower.{option_or, Global, String, standard_port, Ends, PortNumber}
 use Rattle.tp_words.specs.Ends.{IsFaultOf, IsFirstFault, IsRefused, WereTyped, fault_at, fault_behind, input_count, is_port, places, reader_fault, second_reader, standard_count}
 use Rattle.tp_words.specs.declared.stream_ends.EndsFault.{EndsFault}
-use Rattle.tp_words.specs.declared.stream_ends.EndsFault.TheVariants.{File, Have, Discard, TwoOutputs, TwoInputs, TwoStandard, NoReader, Missing, Memory}
+use Rattle.tp_words.specs.declared.stream_ends.EndsFault.TheVariants.{File, Have, Discard, TwoOutputs, TwoInputs, TwoStandard, NoReader, Memory}
 use Rattle.tp_words.specs.declared.stream_ends.FileOption.TheVariants.{Out, In}
 
 abbrev is_of_ends : EndsFault → Bool
@@ -15,7 +15,6 @@ is_of_ends (TwoOutputs port) = true
 is_of_ends (TwoInputs port) = true
 is_of_ends (TwoStandard option) = true
 is_of_ends (NoReader port) = true
-is_of_ends Missing = false
 is_of_ends Memory = false
 
 abbrev AreOfEnds : Option EndsFault → Type 0
@@ -58,14 +57,13 @@ fault_is : (ends : Ends) (fault : EndsFault) → IsFaultOf ends (Some fault) →
 fault_is ends fault is = chosen ends is.0 fault is.1 is.2
 
 -- what is wrong with ends that stand for all that was typed is told of the words
-pub of_ends : (found : ArgMatches) (words : List (String Global)) (ends : Ends) (fault : EndsFault) → WereTyped words ends → IsFaultOf ends (Some fault)
-    → IsRefused found words fault
-of_ends found words ends (File option) typed is = let bad = fault_is ends (File option) is in absurd (cc)
-of_ends found words ends Have typed is = let bad = fault_is ends Have is in absurd (cc)
-of_ends found words ends Discard typed is = let bad = fault_is ends Discard is in absurd (cc)
-of_ends found words ends (TwoOutputs port) typed is = (ends, typed, is)
-of_ends found words ends (TwoInputs port) typed is = (ends, typed, is)
-of_ends found words ends (TwoStandard option) typed is = (ends, typed, is)
-of_ends found words ends (NoReader port) typed is = (ends, typed, is)
-of_ends found words ends Missing typed is = let bad = fault_is ends Missing is in absurd (cc)
-of_ends found words ends Memory typed is = tt
+pub of_ends : (words : List (String Global)) (ends : Ends) (fault : EndsFault) → WereTyped words ends → IsFaultOf ends (Some fault)
+    → IsRefused words fault
+of_ends words ends (File option) typed is = let bad = fault_is ends (File option) is in absurd (cc)
+of_ends words ends Have typed is = let bad = fault_is ends Have is in absurd (cc)
+of_ends words ends Discard typed is = let bad = fault_is ends Discard is in absurd (cc)
+of_ends words ends (TwoOutputs port) typed is = (ends, typed, is)
+of_ends words ends (TwoInputs port) typed is = (ends, typed, is)
+of_ends words ends (TwoStandard option) typed is = (ends, typed, is)
+of_ends words ends (NoReader port) typed is = (ends, typed, is)
+of_ends words ends Memory typed is = tt

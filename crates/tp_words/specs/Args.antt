@@ -10,9 +10,7 @@ use Rattle.tp_words.specs.declared.views.TracePart.{TracePart}
 use Rattle.tp_words.specs.declared.views.View.{View}
 use Rattle.tp_words.specs.declared.views.View.TheVariants.{Node, Image, Journal, Pending, Outputs, NodeJson, PendingJson, OutputsJson, Waits, WaitsJson, WaitsDot}
 use Rattle.tp_words.specs.Given.{given, has_flag, IsGivenOr}
-use Rattle.tp_words.specs.Size.{IsArea}
 use Rattle.tp_words.specs.TraceArgs.{HasNoTurns, IsImageTrace, IsTypedImage}
-use Rattle.tp_words.specs.Typed.{has_word, was_typed}
 
 -- a snapshot begins after a number of entries, or a device is checked again after a number of seconds, if one is given
 abbrev pub IsEvery : Option ℕ → Type 0
@@ -63,22 +61,21 @@ IsTypedPart words part = IsGivenOr 0 part.from (given (codes "from") words)
     × (given (codes "last") words ≡ option_map decimal part.last)
     × (part.json ≡ has_flag (codes "--json") words)
 
--- the node and the entries of a trace are what was typed; it begins with the first entry if none was typed
+-- the entries of a trace are what was typed; it begins with the first entry if none was typed
 abbrev pub IsTypedTrace : List (String Global) → TracePart → Type 0
-IsTypedTrace words part = (was_typed words (decimal part.node) ≡ true)
-    × IsGivenOr 0 part.from (given (codes "from") words)
+IsTypedTrace words part = IsGivenOr 0 part.from (given (codes "from") words)
     × (given (codes "to") words ≡ option_map decimal part.to)
 
--- the number of a view is a decimal that was typed; JSON is shown if it is asked for
+-- JSON is shown if it is asked for, and a graph if that is
 abbrev pub HasTyped : List (String Global) → View → Type 0
-HasTyped words (Node node) = (was_typed words (decimal node) ≡ true) × (has_flag (codes "--json") words ≡ false)
-HasTyped words (Image node) = was_typed words (decimal node) ≡ true
+HasTyped words (Node node) = has_flag (codes "--json") words ≡ false
+HasTyped words (Image node) = Unit {0}
 HasTyped words (Journal part) = IsTypedPart words part
-HasTyped words (Pending port) = (was_typed words (decimal port) ≡ true) × (has_flag (codes "--json") words ≡ false)
-HasTyped words (Outputs port) = (was_typed words (decimal port) ≡ true) × (has_flag (codes "--json") words ≡ false)
-HasTyped words (NodeJson node) = (was_typed words (decimal node) ≡ true) × (has_flag (codes "--json") words ≡ true)
-HasTyped words (PendingJson port) = (was_typed words (decimal port) ≡ true) × (has_flag (codes "--json") words ≡ true)
-HasTyped words (OutputsJson port) = (was_typed words (decimal port) ≡ true) × (has_flag (codes "--json") words ≡ true)
+HasTyped words (Pending port) = has_flag (codes "--json") words ≡ false
+HasTyped words (Outputs port) = has_flag (codes "--json") words ≡ false
+HasTyped words (NodeJson node) = has_flag (codes "--json") words ≡ true
+HasTyped words (PendingJson port) = has_flag (codes "--json") words ≡ true
+HasTyped words (OutputsJson port) = has_flag (codes "--json") words ≡ true
 HasTyped words Waits = (has_flag (codes "--json") words ≡ false) × (has_flag (codes "--dot") words ≡ false)
 HasTyped words WaitsJson = (has_flag (codes "--json") words ≡ true) × (has_flag (codes "--dot") words ≡ false)
 HasTyped words WaitsDot = (has_flag (codes "--json") words ≡ false) × (has_flag (codes "--dot") words ≡ true)
@@ -99,8 +96,7 @@ IsTypedMaps words (OutputsJson port) maps = maps ≡ None
 
 -- each option of a run is what was typed for it, and else what docs/PROGRAM.md says
 abbrev pub IsTypedRun : List (String Global) → Run → Type 0
-IsTypedRun words run = (has_word (string_bytes run.device) words ≡ true)
-    × (given (codes "turns") words ≡ Some (decimal run.turns))
+IsTypedRun words run = (given (codes "turns") words ≡ Some (decimal run.turns))
     × IsGivenOr 2 run.workers (given (codes "workers") words)
     × IsGivenOr QUANTUM run.quantum (given (codes "quantum") words)
     × IsGivenOr 4 run.spare (given (codes "spare") words)
@@ -109,22 +105,17 @@ IsTypedRun words run = (has_word (string_bytes run.device) words ≡ true)
     × (given (codes "in") words ≡ option_map string_bytes run.input)
     × IsGivenOr 0 run.wait_lock (given (codes "wait-lock") words)
 
--- each number is a decimal that was typed, each text a word, and JSON is asked for if its flag was typed
+-- each option is what was typed for it, or else what docs/PROGRAM.md says, and JSON is asked for if its flag was typed
 abbrev pub WasTyped : List (String Global) → Asked → Type 0
 WasTyped words (Help text) = Unit {0}
-WasTyped words (Try image turns) = (has_word (string_bytes image) words ≡ true) × (given (codes "turns") words ≡ Some (decimal turns))
+WasTyped words (Try image turns) = given (codes "turns") words ≡ Some (decimal turns)
 WasTyped words (Trace trace) = IsTypedImage words trace × HasNoTurns words trace.lines
-WasTyped words (TraceDevice device part maps) = (has_word (string_bytes device) words ≡ true) × IsTypedTrace words part
-    × (given (codes "map") words ≡ option_map string_bytes maps)
-WasTyped words (Format new) = (has_word (string_bytes new.device) words ≡ true) × (has_word (string_bytes new.topology) words ≡ true)
-    × (has_word (string_bytes new.images) words ≡ true) × IsArea words new.area (given (codes "area") words)
-    × IsGivenOr 0 new.wait_lock (given (codes "wait-lock") words)
+WasTyped words (TraceDevice device part maps) = IsTypedTrace words part × (given (codes "map") words ≡ option_map string_bytes maps)
+WasTyped words (Format new) = IsGivenOr 0 new.wait_lock (given (codes "wait-lock") words)
 WasTyped words (Runs run) = IsTypedRun words run
-WasTyped words (Compact device wait_lock) = (has_word (string_bytes device) words ≡ true) × IsGivenOr 0 wait_lock (given (codes "wait-lock") words)
-WasTyped words (Recover device workers) = (has_word (string_bytes device) words ≡ true) × IsGivenOr 1 workers (given (codes "workers") words)
-WasTyped words (Show device json) = (has_word (string_bytes device) words ≡ true) × (json ≡ has_flag (codes "--json") words)
-WasTyped words (Status device every json) = (has_word (string_bytes device) words ≡ true) × (given (codes "every") words ≡ option_map decimal every)
-    × (json ≡ has_flag (codes "--json") words)
-WasTyped words (Check topology images json) = (has_word (string_bytes topology) words ≡ true) × (has_word (string_bytes images) words ≡ true)
-    × (json ≡ has_flag (codes "--json") words)
-WasTyped words (Views device view maps) = (has_word (string_bytes device) words ≡ true) × HasTyped words view × IsTypedMaps words view maps
+WasTyped words (Compact device wait_lock) = IsGivenOr 0 wait_lock (given (codes "wait-lock") words)
+WasTyped words (Recover device workers) = IsGivenOr 1 workers (given (codes "workers") words)
+WasTyped words (Show device json) = json ≡ has_flag (codes "--json") words
+WasTyped words (Status device every json) = (given (codes "every") words ≡ option_map decimal every) × (json ≡ has_flag (codes "--json") words)
+WasTyped words (Check topology images json) = json ≡ has_flag (codes "--json") words
+WasTyped words (Views device view maps) = HasTyped words view × IsTypedMaps words view maps

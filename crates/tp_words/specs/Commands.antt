@@ -4,11 +4,12 @@ use Rattle.tp_words.specs.Lower.{Global, String}
 use Rattle.tp_words.specs.declared.command.Command.{Command}
 use Rattle.tp_words.specs.declared.command.Command.TheVariants.{Stream, Stop, Backup, Other}
 use Rattle.tp_words.specs.declared.stream_args.StreamRun.{StreamRun}
+use Rattle.tp_words.specs.declared.words.Name.TheVariants as of
 use Rattle.tp_words.specs.Args.{IsInRange, WasTyped}
-use Rattle.tp_words.specs.BackupArgs.{HasBackupPlaces, WasBackupTyped}
+use Rattle.tp_words.specs.BackupArgs.{HasBackupPlaces}
 use Rattle.tp_words.specs.Ends.{AreEnds}
 use Rattle.tp_words.specs.Given.{has_flag}
-use Rattle.tp_words.specs.Places.{HasPlaces, places}
+use Rattle.tp_words.specs.Places.{HasPlaces, IsTakenAs}
 use Rattle.tp_words.specs.StopArgs.{HasStopPlaces, IsWait, WasStopTyped}
 use Rattle.tp_words.specs.StreamArgs.{IsStreamRun, IsTypedStream}
 use Rattle.tp_words.specs.Typed.{has_word}
@@ -20,21 +21,24 @@ IsCommandInRange (Stop request) = IsWait request.wait
 IsCommandInRange (Backup backup) = Unit {0}
 IsCommandInRange (Other asked) = IsInRange asked
 
--- each number is a decimal that was typed, each text a word; a stream has the word for it
+-- each option is what was typed for it; a stream has the word for it
 abbrev pub WasCommandTyped : List (String Global) → Command → Type 0
 WasCommandTyped words (Stream run) = IsTypedStream words run × (has_word (codes "--stream") words ≡ true)
 WasCommandTyped words (Stop request) = WasStopTyped words request
-WasCommandTyped words (Backup backup) = WasBackupTyped words backup
+WasCommandTyped words (Backup backup) = Unit {0}
 WasCommandTyped words (Other asked) = WasTyped words asked
 
--- The command of a stream is `run`, and its one other place is the device. Each flag is what was typed.
-abbrev pub HasStreamPlaces : List (String Global) → StreamRun → Type 0
-HasStreamPlaces words run = (places words ≡ codes "run" ∷ string_bytes run.device ∷ [])
-    × (run.until_quiet ≡ has_flag (codes "--until-quiet") words)
+-- Each flag of a stream is what was typed.
+abbrev pub HasStreamFlags : List (String Global) → StreamRun → Type 0
+HasStreamFlags words run = (run.until_quiet ≡ has_flag (codes "--until-quiet") words)
     × (run.stop_on_halt ≡ has_flag (codes "--stop-on-halt") words)
     × (run.has_progress ≡ has_flag (codes "--progress") words)
 
--- The command is the one that was typed, and so is each of its places and flags.
+-- The line is taken as a stream, whose one place is the device.
+abbrev pub HasStreamPlaces : List (String Global) → StreamRun → Type 0
+HasStreamPlaces words run = IsTakenAs words of.Stream (string_bytes run.device ∷ []) × HasStreamFlags words run
+
+-- The line is taken as this command, with these places, and so were its flags typed. Help is for a line that asks for it.
 abbrev pub HasCommandPlaces : List (String Global) → Command → Type 0
 HasCommandPlaces words (Stream run) = HasStreamPlaces words run
 HasCommandPlaces words (Stop request) = HasStopPlaces words request

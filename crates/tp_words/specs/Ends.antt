@@ -1,9 +1,9 @@
 -- Ends of a stream's ports that were typed.
 use Rattle.std.specs.Prelude.{◌≡◌, ◌≢◌, ◌⊎◌, ◌<◌, ◌≤◌, ◌^◌, ◌==◌, ◌+◌, ℕ, Bool, false, List, [], ◌∷◌, ◌++◌, Option, Some, None, All, Any, map, length, count_by, if◌then◌else◌, nat_lt, codes, string_bytes}
-use Rattle.tp_words.specs.Lower.{decimal, option_or, Global, String, ArgMatches, MAX_PORTS, is_standard, standard_port, Ends, PortFile, PortNumber}
-use Rattle.tp_words.specs.Given.{all_given, found_texts}
+use Rattle.tp_words.specs.Lower.{decimal, option_or, Global, String, MAX_PORTS, is_standard, standard_port, Ends, PortFile, PortNumber}
+use Rattle.tp_words.specs.Given.{all_given}
 use Rattle.tp_words.specs.declared.stream_ends.EndsFault.{EndsFault}
-use Rattle.tp_words.specs.declared.stream_ends.EndsFault.TheVariants.{File, Have, Discard, TwoOutputs, TwoInputs, TwoStandard, NoReader, Missing, Memory}
+use Rattle.tp_words.specs.declared.stream_ends.EndsFault.TheVariants.{File, Have, Discard, TwoOutputs, TwoInputs, TwoStandard, NoReader, Memory}
 use Rattle.tp_words.specs.declared.stream_ends.FileOption.{FileOption}
 use Rattle.tp_words.specs.declared.stream_ends.FileOption.TheVariants.{Out, In}
 
@@ -129,26 +129,21 @@ AreHaves texts = (haves : List PortNumber) × All IsHave haves × (map have_text
 abbrev pub ArePorts : List (List ℕ) → Type 0
 ArePorts texts = (ports : List ℕ) × All IsPort ports × (map decimal ports ≡ texts)
 
--- Why what was typed for an option isn't taken: out of memory, `clap` found something else, or the option doesn't take one of the texts.
-abbrev pub IsTextFault : (List ℕ → Type 0) → EndsFault → List (List ℕ) → List (List ℕ) → EndsFault → Type 0
-IsTextFault IsNone own clap typed fault = (fault ≡ Memory) ⊎ ((fault ≡ Missing) × (clap ≢ typed)) ⊎ ((fault ≡ own) × Any IsNone typed)
-
--- `clap` found something else for an option
-abbrev pub FoundElse : ArgMatches → List (String Global) → List ℕ → Type 0
-FoundElse found words id = found_texts found id ≢ all_given id words
+-- Why what was typed for an option isn't taken: out of memory, or the option doesn't take one of the texts.
+abbrev pub IsTextFault : (List ℕ → Type 0) → EndsFault → List (List ℕ) → EndsFault → Type 0
+IsTextFault IsNone own typed fault = (fault ≡ Memory) ⊎ ((fault ≡ own) × Any IsNone typed)
 
 -- Why words name no ends. What was typed for the options is checked in the order `--out`, `--have`, `--discard`, `--in`: the first fault is told. If
 -- all are right, it is told what is wrong with the ends.
-abbrev pub IsRefused : ArgMatches → List (String Global) → EndsFault → Type 0
-IsRefused found words Memory = Unit {0}
-IsRefused found words Missing = Any (FoundElse found words) (codes "out" ∷ codes "have" ∷ codes "discard" ∷ codes "in" ∷ [])
-IsRefused found words (File Out) = Any IsNoFile (all_given (codes "out") words)
-IsRefused found words Have = AreFiles (all_given (codes "out") words) × Any IsNoHave (all_given (codes "have") words)
-IsRefused found words Discard = AreFiles (all_given (codes "out") words) × AreHaves (all_given (codes "have") words)
+abbrev pub IsRefused : List (String Global) → EndsFault → Type 0
+IsRefused words Memory = Unit {0}
+IsRefused words (File Out) = Any IsNoFile (all_given (codes "out") words)
+IsRefused words Have = AreFiles (all_given (codes "out") words) × Any IsNoHave (all_given (codes "have") words)
+IsRefused words Discard = AreFiles (all_given (codes "out") words) × AreHaves (all_given (codes "have") words)
     × Any IsNoPort (all_given (codes "discard") words)
-IsRefused found words (File In) = AreFiles (all_given (codes "out") words) × AreHaves (all_given (codes "have") words)
+IsRefused words (File In) = AreFiles (all_given (codes "out") words) × AreHaves (all_given (codes "have") words)
     × ArePorts (all_given (codes "discard") words) × Any IsNoFile (all_given (codes "in") words)
-IsRefused found words (TwoOutputs port) = (ends : Ends) × WereTyped words ends × IsFaultOf ends (Some (TwoOutputs port))
-IsRefused found words (TwoInputs port) = (ends : Ends) × WereTyped words ends × IsFaultOf ends (Some (TwoInputs port))
-IsRefused found words (TwoStandard option) = (ends : Ends) × WereTyped words ends × IsFaultOf ends (Some (TwoStandard option))
-IsRefused found words (NoReader port) = (ends : Ends) × WereTyped words ends × IsFaultOf ends (Some (NoReader port))
+IsRefused words (TwoOutputs port) = (ends : Ends) × WereTyped words ends × IsFaultOf ends (Some (TwoOutputs port))
+IsRefused words (TwoInputs port) = (ends : Ends) × WereTyped words ends × IsFaultOf ends (Some (TwoInputs port))
+IsRefused words (TwoStandard option) = (ends : Ends) × WereTyped words ends × IsFaultOf ends (Some (TwoStandard option))
+IsRefused words (NoReader port) = (ends : Ends) × WereTyped words ends × IsFaultOf ends (Some (NoReader port))

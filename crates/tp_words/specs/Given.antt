@@ -1,6 +1,6 @@
 -- What was typed for an option.
 use Rattle.std.specs.Prelude.{◌≡◌, ◌++◌, ◌||◌, ℕ, Bool, false, List, [], ◌∷◌, Option, Some, None, if◌then◌else◌, length, take, drop, codes, string_bytes, nat_eq}
-use Rattle.tp_words.specs.Lower.{pointwise, decimal, cons_option, option_map, option_or, unwrap_or, Global, String, found_of, matched_of, raw_values, ArgMatches}
+use Rattle.tp_words.specs.Lower.{pointwise, decimal, cons_option, option_or, Global, String}
 use Rattle.tp_words.specs.Typed.{is_word}
 
 -- what is after an ending, if the bytes begin with it
@@ -21,9 +21,9 @@ given_in name ending (word ∷ words) =
     else (if is_word name word then first_text words
     else option_or (value_in ending (string_bytes word)) (given_in name ending words))
 
--- what was typed for an option
+-- what was typed for an option; the first word is the program's name
 abbrev pub given : List ℕ → List (String Global) → Option (List ℕ)
-given id words = given_in (codes "--" ++ id) (codes "--" ++ (id ++ codes "=")) words
+given id words = given_in (codes "--" ++ id) (codes "--" ++ (id ++ codes "=")) (drop 1 words)
 
 -- what a word says for the option of a name, whose ending is the name with `=` after it, if these words are after it
 abbrev pub value_of : List ℕ → List ℕ → String Global → List (String Global) → Option (List ℕ)
@@ -36,16 +36,15 @@ all_given_in name ending (word ∷ words) =
     if is_word (codes "--") word then [] else cons_option (value_of name ending word words) (all_given_in name ending words)
 
 abbrev pub all_given : List ℕ → List (String Global) → List (List ℕ)
-all_given id words = all_given_in (codes "--" ++ id) (codes "--" ++ (id ++ codes "=")) words
-
--- what `clap` found for an option that may be there several times
-abbrev pub found_texts : ArgMatches → List ℕ → List (List ℕ)
-found_texts found id = unwrap_or (option_map raw_values (matched_of (found_of found) id)) []
+all_given id words = all_given_in (codes "--" ++ id) (codes "--" ++ (id ++ codes "=")) (drop 1 words)
 
 -- a flag of this name was typed: one of the words is it, and no word `--` is before that
+abbrev pub has_flag_in : List ℕ → List (String Global) → Bool
+has_flag_in name [] = false
+has_flag_in name (word ∷ words) = if is_word (codes "--") word then false else (is_word name word || has_flag_in name words)
+
 abbrev pub has_flag : List ℕ → List (String Global) → Bool
-has_flag name [] = false
-has_flag name (word ∷ words) = if is_word (codes "--") word then false else (is_word name word || has_flag name words)
+has_flag name words = has_flag_in name (drop 1 words)
 
 -- the number is the decimal that was typed, or that one if none was
 abbrev pub IsGivenOr : ℕ → ℕ → Option (List ℕ) → Type 0

@@ -1,6 +1,8 @@
 pub mod Lower
 pub mod Typed
 pub mod Given
+pub mod Rows
+pub mod Lines
 pub mod Places
 pub mod Size
 pub mod Ends
@@ -12,6 +14,7 @@ pub mod RunNumbers
 pub mod Standard
 pub mod StreamArgs
 pub mod StreamRefused
+pub mod Refused
 pub mod BackupArgs
 pub mod StopArgs
 pub mod Commands

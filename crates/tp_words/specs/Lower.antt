@@ -1,13 +1,12 @@
 -- What definitions and contracts here name of the crates below.
-pub use Rattle.clap.specs.Words.{first_value, found_of, kind_of, matched_of, raw_values}
+pub use Rattle.clap.specs.Words.{kind_of}
 pub use Rattle.clap.specs.declared.error.Error.{Error}
 pub use Rattle.clap.specs.declared.error.kind.ErrorKind.TheVariants.{DisplayHelp, DisplayVersion, OutOfMemory}
-pub use Rattle.clap.specs.declared.parser.matches.ArgMatches.{ArgMatches}
 pub use Rattle.std.specs.Borrow.{Bor}
 pub use Rattle.std.specs.Cmp.Lexicographic.{pointwise}
 pub use Rattle.std.specs.Fmt.{decimal}
-pub use Rattle.std.specs.List.{cons_option, ends_with, list_any, starts_with}
-pub use Rattle.std.specs.Option.{option_map, option_or, unwrap_or}
+pub use Rattle.std.specs.List.{cons_option, list_any, starts_with}
+pub use Rattle.std.specs.Option.{option_map, option_or}
 pub use Rattle.std.specs.declared.alloc.Global.{Global}
 pub use Rattle.std.specs.declared.string.String.{String}
 pub use Rattle.tp_model.specs.declared.limits.TheConstants.{MAX_PORTS, MAX_STEPS}

@@ -1,79 +1,49 @@
--- The words of a command line that are neither options nor their values: the command, and then what it is about, in order.
-use Rattle.std.specs.Prelude.{◌≡◌, Bool, ℕ, true, false, List, [], ◌∷◌, Option, Some, None, if◌then◌else◌, codes, string_bytes, nat_eq}
-use Rattle.tp_words.specs.Lower.{Bor, decimal, list_any, starts_with, Global, String, first_value, found_of, ArgMatches}
+-- What a line is taken as, by the command that it names and by its places, in order.
+use Rattle.std.specs.Prelude.{◌≡◌, ℕ, true, false, List, [], ◌∷◌, Option, Some, None, codes, string_bytes}
+use Rattle.tp_words.specs.Lower.{decimal, Global, String}
 use Rattle.tp_words.specs.declared.args.Asked.{Asked}
 use Rattle.tp_words.specs.declared.args.Asked.TheVariants.{Help, Try, Trace, TraceDevice, Format, Run as Runs, Compact, Recover, Show, Status, Check, View as Views}
 use Rattle.tp_words.specs.declared.args.NewDevice.{NewDevice}
-use Rattle.tp_words.specs.declared.places.TheConstants.{VALUED}
 use Rattle.tp_words.specs.declared.views.View.{View}
 use Rattle.tp_words.specs.declared.views.View.TheVariants.{Node, Image, Journal, Pending, Outputs, NodeJson, PendingJson, OutputsJson, Waits, WaitsJson, WaitsDot}
+use Rattle.tp_words.specs.declared.words.Name.{Name}
+use Rattle.tp_words.specs.declared.words.Name.TheVariants as of
 use Rattle.tp_words.specs.Given.{given, has_flag}
-use Rattle.tp_words.specs.Size.{IsSizeOf}
+use Rattle.tp_words.specs.Lines.{asks_help, taken}
+use Rattle.tp_words.specs.Size.{IsAreaOf}
 use Rattle.tp_words.specs.TraceArgs.{lines_command}
-use Rattle.tp_words.specs.Typed.{is_word}
 
--- the word is an option
-abbrev pub is_option : String Global → Bool
-is_option word = starts_with nat_eq (string_bytes word) (codes "--")
+-- the line is taken as this command, with these places after it
+abbrev pub IsTakenAs : List (String Global) → Name → List (List ℕ) → Type 0
+IsTakenAs words name places = taken words ≡ Some (record { name = name; places = places })
 
--- the word is one of these names
-abbrev pub is_one_of : List (Bor (List ℕ)) → String Global → Bool
-is_one_of names word = list_any (λ name. is_word name.now word) names
+-- the line asks for help, and no command takes it
+abbrev pub AsksHelp : List (String Global) → Type 0
+AsksHelp words = (taken words ≡ None) × (asks_help words ≡ true)
 
--- it is an option whose value is the next word
-abbrev pub takes_next : String Global → Bool
-takes_next word = list_any (λ name. is_word name.now word) VALUED.now
+-- a last place that may be there
+abbrev pub last_place : Option (List ℕ) → List (List ℕ)
+last_place None = []
+last_place (Some text) = text ∷ []
 
--- The places among some words. `is_value`: the first word is an option's value. `has_ended`: a word `--` came before them, so none of them is an option.
-abbrev pub places_in : Bool → Bool → List (String Global) → List (List ℕ)
-places_in is_value has_ended [] = []
-places_in is_value has_ended (word ∷ words) =
-    if is_value then places_in false has_ended words
-    else if has_ended then (string_bytes word ∷ places_in false true words)
-    else if is_word (codes "--") word then places_in false true words
-    else if takes_next word then places_in true false words
-    else if is_option word then places_in false false words
-    else (string_bytes word ∷ places_in false false words)
-
--- the places of a command line; its first word is the program's name
-abbrev pub places : List (String Global) → List (List ℕ)
-places [] = []
-places (program ∷ words) = places_in false false words
-
--- The last place of `format`: the text of AREA, if it has one and `--area` wasn't typed.
-abbrev pub area_places : (option : Option (List ℕ)) → (place : Option (List ℕ)) → List (List ℕ)
-area_places None (Some text) = text ∷ []
-area_places None None = []
-area_places (Some size) place = []
-
--- The area is the size at that place, if `--area` wasn't typed.
-abbrev pub IsAreaPlaced : (option : Option (List ℕ)) → Option ℕ → (place : Option (List ℕ)) → Type 0
-IsAreaPlaced option area place = option ≡ None → IsSizeOf place area
-
--- The places of `format`: what it makes, from what, and the size of an area.
+-- The places of `format`: what it makes, from what, and the size of an area, if that is no option.
 abbrev pub HasFormatPlaces : List (String Global) → NewDevice → Type 0
-HasFormatPlaces words new = (area : Option (List ℕ)) × IsAreaPlaced (given (codes "area") words) new.area area
-    × (places words
-    ≡ codes "format" ∷ string_bytes new.device ∷ string_bytes new.topology ∷ string_bytes new.images ∷ area_places (given (codes "area") words) area)
+HasFormatPlaces words new = (place : Option (List ℕ)) × IsAreaOf (given (codes "area") words) place new.area
+    × IsTakenAs words of.Format (string_bytes new.device ∷ string_bytes new.topology ∷ string_bytes new.images ∷ last_place place)
 
 -- the command that shows a view
-abbrev pub view_command : View → List ℕ
-view_command (Node node) = codes "node"
-view_command (NodeJson node) = codes "node"
-view_command (Image node) = codes "image"
-view_command (Journal part) = codes "journal"
-view_command (Pending port) = codes "port"
-view_command (PendingJson port) = codes "port"
-view_command (Outputs port) = codes "port"
-view_command (OutputsJson port) = codes "port"
-view_command Waits = codes "waits"
-view_command WaitsJson = codes "waits"
-view_command WaitsDot = codes "waits"
-
--- the decimal of a number, if there is one
-abbrev pub listed : Option ℕ → List (List ℕ)
-listed None = []
-listed (Some number) = decimal number ∷ []
+abbrev pub view_command : View → Name
+view_command (Node node) = of.Node
+view_command (NodeJson node) = of.Node
+view_command (Image node) = of.Image
+view_command (Journal part) = of.Journal
+view_command (Pending port) = of.Port
+view_command (PendingJson port) = of.Port
+view_command (Outputs port) = of.Port
+view_command (OutputsJson port) = of.Port
+view_command Waits = of.Waits
+view_command WaitsJson = of.Waits
+view_command WaitsDot = of.Waits
 
 -- the places of a view after its device
 abbrev pub view_places : View → List (List ℕ)
@@ -97,28 +67,18 @@ HasViewFlag words (Outputs port) = has_flag (codes "--pending") words ≡ false
 HasViewFlag words (OutputsJson port) = has_flag (codes "--pending") words ≡ false
 HasViewFlag words _ = Unit {0}
 
--- The first place is the command. The others are what the command says, each at its own place, and there are no more of them. `format` refuses a
--- file that is there if `--new` was typed, and `run` asks for no stream if `--stream` wasn't.
+-- The line is taken as the command, whose places are what the command says, each at its own place, and no more. `format` refuses a file that is
+-- there if `--new` was typed. Help is for a line that asks for it.
 abbrev pub HasPlaces : List (String Global) → Asked → Type 0
-HasPlaces words (Help text) = Unit {0}
-HasPlaces words (Try image turns) = places words ≡ codes "try" ∷ string_bytes image ∷ []
-HasPlaces words (Trace trace) = places words ≡ lines_command trace.lines ∷ string_bytes trace.image ∷ []
-HasPlaces words (TraceDevice device part maps) = places words ≡ codes "trace" ∷ string_bytes device ∷ decimal part.node ∷ []
+HasPlaces words (Help text) = AsksHelp words
+HasPlaces words (Try image turns) = IsTakenAs words of.Try (string_bytes image ∷ [])
+HasPlaces words (Trace trace) = IsTakenAs words (lines_command trace.lines) (string_bytes trace.image ∷ [])
+HasPlaces words (TraceDevice device part maps) = IsTakenAs words of.Trace (string_bytes device ∷ decimal part.node ∷ [])
 HasPlaces words (Format new) = HasFormatPlaces words new × (new.only_new ≡ has_flag (codes "--new") words)
-HasPlaces words (Runs run) = (places words ≡ codes "run" ∷ string_bytes run.device ∷ []) × (has_flag (codes "--stream") words ≡ false)
-HasPlaces words (Compact device wait_lock) = places words ≡ codes "compact" ∷ string_bytes device ∷ []
-HasPlaces words (Recover device workers) = places words ≡ codes "recover" ∷ string_bytes device ∷ []
-HasPlaces words (Show device json) = places words ≡ codes "show" ∷ string_bytes device ∷ []
-HasPlaces words (Status device every json) = places words ≡ codes "status" ∷ string_bytes device ∷ []
-HasPlaces words (Check topology images json) = places words ≡ codes "check" ∷ string_bytes topology ∷ string_bytes images ∷ []
-HasPlaces words (Views device view maps) = (places words ≡ view_command view ∷ string_bytes device ∷ view_places view) × HasViewFlag words view
-
--- The text is what `clap` found for the place of this name.
-abbrev pub IsFound : ArgMatches → List ℕ → String Global → Type 0
-IsFound found id text = first_value (found_of found) id ≡ Some (string_bytes text)
-
--- Each text of `format` and of `check` is what `clap` found for its place.
-abbrev pub HasFoundTexts : ArgMatches → Asked → Type 0
-HasFoundTexts found (Format new) = IsFound found (codes "DEVICE") new.device × IsFound found (codes "TOPOLOGY") new.topology × IsFound found (codes "DIR") new.images
-HasFoundTexts found (Check topology images json) = IsFound found (codes "TOPOLOGY") topology × IsFound found (codes "DIR") images
-HasFoundTexts found _ = ⊥
+HasPlaces words (Runs run) = IsTakenAs words of.Run (string_bytes run.device ∷ [])
+HasPlaces words (Compact device wait_lock) = IsTakenAs words of.Compact (string_bytes device ∷ [])
+HasPlaces words (Recover device workers) = IsTakenAs words of.Recover (string_bytes device ∷ [])
+HasPlaces words (Show device json) = IsTakenAs words of.Show (string_bytes device ∷ [])
+HasPlaces words (Status device every json) = IsTakenAs words of.Status (string_bytes device ∷ [])
+HasPlaces words (Check topology images json) = IsTakenAs words of.Check (string_bytes topology ∷ string_bytes images ∷ [])
+HasPlaces words (Views device view maps) = IsTakenAs words (view_command view) (string_bytes device ∷ view_places view) × HasViewFlag words view

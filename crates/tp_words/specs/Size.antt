@@ -1,7 +1,9 @@
 -- A number of bytes that was typed, as a decimal or with a letter after it.
-use Rattle.std.specs.Prelude.{◌≡◌, ◌*◌, ◌++◌, ℕ, true, List, [], Option, Some, None, IfSome, IsSomeAnd, codes}
-use Rattle.tp_words.specs.Lower.{decimal, Global, String}
-use Rattle.tp_words.specs.Typed.{has_word}
+use Rattle.std.specs.Prelude.{◌≡◌, ◌≢◌, ◌≤◌, ◌*◌, ◌++◌, ℕ, List, [], Option, Some, None, IsSomeAnd, codes}
+use Rattle.tp_words.specs.Lower.{decimal}
+use Rattle.tp_words.specs.declared.arg_fault.ArgFault.{ArgFault}
+use Rattle.tp_words.specs.declared.arg_fault.ArgFault.TheVariants.{Size, Memory}
+use Rattle.tp_words.specs.declared.args.TheConstants.{MAX_AREA}
 use Rattle.tp_words.specs.declared.sizes.Measure.{Measure}
 use Rattle.tp_words.specs.declared.sizes.Measure.TheVariants.{Bytes, Kilo, Mega, Giga}
 
@@ -26,18 +28,29 @@ pub record IsSize (text : List ℕ) (size : ℕ) : Type 0 where
   pub spelt : text ≡ decimal number ++ letter measure
   pub is : size ≡ number * bytes_each measure
 
--- one of the words says the size
-pub record IsWordSize (words : List (String Global)) (size : ℕ) : Type 0 where
-  pub text : List ℕ
-  pub there : has_word text words ≡ true
-  pub is : IsSize text size
-
--- an area has the bytes that were typed for its option; if none were it has those of a word, or no area is asked for
-abbrev pub IsArea : List (String Global) → Option ℕ → Option (List ℕ) → Type 0
-IsArea words area None = IfSome area (IsWordSize words)
-IsArea words area (Some text) = IsSomeAnd area (IsSize text)
-
 -- the size is that of this text; there is none if there is no text
 abbrev pub IsSizeOf : Option (List ℕ) → Option ℕ → Type 0
 IsSizeOf None size = size ≡ None
 IsSizeOf (Some text) size = IsSomeAnd size (IsSize text)
+
+-- an area has the size that was typed for its option, or else that of its place
+abbrev pub IsAreaOf : (option place : Option (List ℕ)) → Option ℕ → Type 0
+IsAreaOf None place area = IsSizeOf place area
+IsAreaOf (Some text) place area = IsSizeOf (Some text) area
+
+-- the text says no size up to a bound, in one measure, or in any
+abbrev pub IsNoSizeIn : Measure → List ℕ → ℕ → Type 0
+IsNoSizeIn measure text most = (number : ℕ) → number * bytes_each measure ≤ most → text ≢ decimal number ++ letter measure
+
+abbrev pub IsNoSize : List ℕ → ℕ → Type 0
+IsNoSize text most = (size : ℕ) → size ≤ most → IsSize text size → ⊥
+
+-- why a size isn't taken: out of memory, or the text is none; `name`: where it was typed
+abbrev pub IsSizeFault : List ℕ → Option (List ℕ) → ArgFault → Type 0
+IsSizeFault name text Memory = Unit {0}
+IsSizeFault name (Some text) (Size told) = (told.now ≡ name) × IsNoSize text MAX_AREA
+IsSizeFault name text _ = ⊥
+
+abbrev pub IsAreaFault : (option place : Option (List ℕ)) → ArgFault → Type 0
+IsAreaFault None place fault = IsSizeFault (codes "AREA") place fault
+IsAreaFault (Some text) place fault = IsSizeFault (codes "--area") (Some text) fault

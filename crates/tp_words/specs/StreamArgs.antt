@@ -1,16 +1,13 @@
 -- The values of a command line with `--stream`.
-use Rattle.std.specs.Prelude.{◌≡◌, ◌≤◌, ◌<◌, ◌^◌, ℕ, true, List, Option, Some, None, codes, string_bytes}
+use Rattle.std.specs.Prelude.{◌≡◌, ◌≤◌, ◌<◌, ◌^◌, ℕ, List, Option, Some, None, codes, string_bytes}
 use Rattle.tp_words.specs.Lower.{decimal, option_map, Global, String, MAX_STEPS}
 use Rattle.tp_words.specs.declared.args.TheConstants.{MAX_WORKERS, QUANTUM}
-use Rattle.tp_words.specs.declared.stream_args.StreamAsked.{StreamAsked}
-use Rattle.tp_words.specs.declared.stream_args.StreamAsked.TheVariants.{Help, Run}
 use Rattle.tp_words.specs.declared.stream_args.StreamNumbers.{StreamNumbers}
 use Rattle.tp_words.specs.declared.stream_args.StreamRun.{StreamRun}
 use Rattle.tp_words.specs.Args.{IsEvery}
-use Rattle.tp_words.specs.Ends.{AreEnds, WereTyped}
+use Rattle.tp_words.specs.Ends.{WereTyped}
 use Rattle.tp_words.specs.Given.{given, IsGivenOr}
 use Rattle.tp_words.specs.Standard.{AreStandard}
-use Rattle.tp_words.specs.Typed.{has_word}
 
 -- turns have no bound, or one in its range
 abbrev pub IsBound : Option ℕ → Type 0
@@ -31,16 +28,10 @@ IsTeam (Some workers) = (0 < workers) × (workers ≤ MAX_WORKERS)
 unfoldable pub IsStreamRun : StreamRun → Type 0
 IsStreamRun run = IsBound run.turns × (0 < run.quantum) × (run.quantum ≤ MAX_STEPS) × IsEvery run.every × IsProgressEvery run.progress_every × IsTeam run.workers
 
--- and each port
-abbrev pub IsStreamInRange : StreamAsked → Type 0
-IsStreamInRange (Help text) = Unit {0}
-IsStreamInRange (Run run) = IsStreamRun run × AreEnds run.ends
-
 -- Each number of a stream is what was typed for it, or else what docs/PROGRAM.md says. Its turns have a bound exactly if one was typed, and it ends
 -- by a file exactly if one was typed. Each end of a port is what was typed for it.
 abbrev pub IsTypedStream : List (String Global) → StreamRun → Type 0
-IsTypedStream words run = (has_word (string_bytes run.device) words ≡ true)
-    × (given (codes "turns") words ≡ option_map decimal run.turns)
+IsTypedStream words run = (given (codes "turns") words ≡ option_map decimal run.turns)
     × (given (codes "stop-file") words ≡ option_map string_bytes run.stop_file)
     × (given (codes "progress-every") words ≡ option_map decimal run.progress_every)
     × (given (codes "workers") words ≡ option_map decimal run.workers)
@@ -50,10 +41,6 @@ IsTypedStream words run = (has_word (string_bytes run.device) words ≡ true)
     × IsGivenOr 0 run.wait_lock (given (codes "wait-lock") words)
     × WereTyped words run.ends
     × AreStandard words run.ends
-
-abbrev pub WasStreamTyped : List (String Global) → StreamAsked → Type 0
-WasStreamTyped words (Help text) = Unit {0}
-WasStreamTyped words (Run run) = IsTypedStream words run
 
 -- The numbers of a stream are in their ranges.
 pub record AreInRange (numbers : StreamNumbers) : Type 0 where

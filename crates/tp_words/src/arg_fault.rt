@@ -34,7 +34,7 @@ pub enum ArgFault {
     Stream(&'static str),
     /// Both `--explain` and `--no-explain` are there.
     BothExplain,
-    /// `clap` found other words than those that were typed, or found none though one is needed; or another function reads the words of this command.
+    /// No command takes the words, and `clap` doesn't say why: an option goes with another one, or with another place.
     Missing,
     Memory,
 }

@@ -1,15 +1,20 @@
 //! What a command line asks for that is none of a stream, of `stop` or of `backup`.
 
-ghost use Rattle.std.specs.Prelude.{IfOk};
+ghost use Rattle.std.specs.Prelude.{◌≢◌, IfErr, IfOk, map};
 ghost use Rattle.tp_words.specs.Args.{IsInRange, WasTyped};
-ghost use Rattle.tp_words.specs.Places.{HasPlaces};
+ghost use Rattle.tp_words.specs.Places.{HasPlaces, IsTakenAs};
+ghost use Rattle.tp_words.specs.Refused.{IsRefusedAs};
+ghost use Rattle.tp_words.specs.declared.words.Name.TheVariants as of;
 
 use crate::arg_fault::ArgFault;
 use crate::device_args::{asked_compact, asked_format, asked_run};
 use crate::trace_args::{ImageTrace, asked_trace};
-use crate::view_args::{asked_check, asked_to_read, asked_try};
+use crate::view_args::{
+    asked_check, asked_image, asked_journal, asked_node, asked_port, asked_recover, asked_show,
+    asked_status, asked_try, asked_waits,
+};
 use crate::views::{TracePart, View};
-use clap::ArgMatches;
+use crate::words::Name;
 use std::alloc::Global;
 
 /// What a command line asks for that is none of a stream, of `stop` or of `backup`.
@@ -126,24 +131,35 @@ pub const MAX_WAIT: u64 = 4_294_967;
 /// The most words of a command line. Each port has four options at most, each of two words.
 pub const MAX_WORDS: usize = 256;
 
-/// What a command of that name asks for; those of a stream, of `stop` and of `backup` are none here.
+/// What a line asks for that is taken as this command, which is none of a stream, of `stop` and of `backup`.
 pub fn asked_by(
     alloc: Global,
     words: &[String],
-    name: &str,
-    found: &ArgMatches,
+    name: Name,
+    places: &[&str],
 ) -> Result<Asked, ArgFault>
+    requires other { (name ≢ of.Stop) × (name ≢ of.Backup) × (name ≢ of.Stream) }
+    requires taken { IsTakenAs words.now name (map (λ place. place.now) places.now) }
     ensures range { IfOk result IsInRange }
     ensures typed { IfOk result (WasTyped words.now) }
     ensures places { IfOk result (HasPlaces words.now) }
+    ensures refused { IfErr result (IsRefusedAs name words.now (map (λ place. place.now) places.now)) }
 {
     match name {
-        "try" => asked_try(alloc, words, found),
-        "trace" => asked_trace(alloc, words, found),
-        "format" => asked_format(alloc, words, found),
-        "run" => asked_run(alloc, words, found),
-        "check" => asked_check(alloc, words, found),
-        "compact" => asked_compact(alloc, words, found),
-        _ => asked_to_read(alloc, words, name, found),
+        Name::Try => asked_try(alloc, words, places),
+        Name::Trace => asked_trace(alloc, words, places),
+        Name::Check => asked_check(alloc, words, places),
+        Name::Format => asked_format(alloc, words, places),
+        Name::Run => asked_run(alloc, words, places),
+        Name::Compact => asked_compact(alloc, words, places),
+        Name::Recover => asked_recover(alloc, words, places),
+        Name::Show => asked_show(alloc, words, places),
+        Name::Status => asked_status(alloc, words, places),
+        Name::Waits => asked_waits(alloc, words, places),
+        Name::Journal => asked_journal(alloc, words, places),
+        Name::Node => asked_node(alloc, words, places),
+        Name::Image => asked_image(alloc, words, places),
+        Name::Port => asked_port(alloc, words, places),
+        Name::Stop | Name::Backup | Name::Stream => unreachable!(),
     }
 }

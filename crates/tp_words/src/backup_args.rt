@@ -1,13 +1,13 @@
 //! What a command line of `backup` asks for.
 
-ghost use Rattle.std.specs.Prelude.{IfOk, codes};
-ghost use Rattle.tp_words.specs.BackupArgs.{HasBackupPlaces, WasBackupTyped};
-ghost use Rattle.tp_words.specs.Places.{IsFound};
+ghost use Rattle.std.specs.Prelude.{◌≡◌, IfErr, IfOk, map};
+ghost use Rattle.tp_words.specs.BackupArgs.{HasBackupPlaces};
+ghost use Rattle.tp_words.specs.Places.{IsTakenAs};
+ghost use Rattle.tp_words.specs.Refused.{IsRefusedAs};
+ghost use Rattle.tp_words.specs.declared.words.Name.TheVariants as of;
 
 use crate::arg_fault::ArgFault;
-use crate::found::text_of;
-use crate::places::has_places;
-use clap::ArgMatches;
+use crate::found::pair;
 use std::alloc::Global;
 
 /// A copy of a device that is to be made: the device's file, and the copy's, which doesn't exist yet.
@@ -17,14 +17,17 @@ pub struct Backup {
     pub copy: String,
 }
 
-/// The copy that was found among the words. The device and the copy are words of them.
-pub fn backup_of(alloc: Global, words: &[String], found: &ArgMatches) -> Result<Backup, ArgFault>
-    ensures typed { IfOk result (WasBackupTyped words.now) }
+/// The copy that a line asks for.
+pub fn backup_of(alloc: Global, words: &[String], places: &[&str]) -> Result<Backup, ArgFault>
+    requires { IsTakenAs words.now of.Backup (map (λ place. place.now) places.now) }
     ensures places { IfOk result (HasBackupPlaces words.now) }
-    ensures found { IfOk result (λ backup. IsFound found.now (codes "DEVICE") backup.device × IsFound found.now (codes "COPY") backup.copy) }
+    ensures refused { IfErr result (IsRefusedAs of.Backup words.now (map (λ place. place.now) places.now)) }
 {
-    let device = text_of(alloc, words, found, "DEVICE")?;
-    let copy = text_of(alloc, words, found, "COPY")?;
-    has_places(words, &["backup", device.as_str(), copy.as_str()])?;
-    Ok(Backup { device, copy })
+    let Some((device, copy)) = pair(places) else {
+        return Err(ArgFault::Missing);
+    };
+    Ok(Backup {
+        device: String::from_str(alloc, device)?,
+        copy: String::from_str(alloc, copy)?,
+    })
 }

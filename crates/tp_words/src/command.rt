@@ -1,26 +1,27 @@
 //! What a command line asks for, whatever its command.
 
-ghost use Rattle.std.specs.Prelude.{◌≡◌, true, IfErr, IfOk, codes};
-ghost use Rattle.tp_words.specs.Commands.{HasCommandPlaces, HasStreamPlaces, IsCommandInRange, WasCommandTyped};
+ghost use Rattle.std.specs.Prelude.{◌≡◌, ◌⊎◌, true, IfErr, IfOk, OnOk, map};
+ghost use Rattle.tp_words.specs.Commands.{HasCommandPlaces, IsCommandInRange, WasCommandTyped};
 ghost use Rattle.tp_words.specs.Explaining.{SaysExplaining, is_help};
-ghost use Rattle.tp_words.specs.StreamRefused.{IsStreamRefused};
-ghost use Rattle.tp_words.specs.Typed.{has_word};
+ghost use Rattle.tp_words.specs.Lines.{asks_help, taken};
+ghost use Rattle.tp_words.specs.Places.{IsTakenAs};
+ghost use Rattle.tp_words.specs.Refused.{IsLineRefused, IsRefusedBy, IsRefusedLine, IsUntaken};
+ghost use Rattle.tp_words.specs.declared.arg_fault.ArgFault.TheVariants.{Memory};
 ghost use Rattle.tp_words.specs.declared.command.CommandFault.TheVariants.{Arg, Ends};
 
 use crate::arg_fault::ArgFault;
 use crate::args::{Asked, asked_by};
 use crate::backup_args::{Backup, backup_of};
 use crate::explaining::{Explaining, explaining_of};
-use crate::numbers::{has_flag, has_word};
-use crate::parsing::{Parsed, parse};
-use crate::places::has_places;
+use crate::line::taken;
+use crate::numbers::has_flag;
+use crate::parsing::untaken;
 use crate::stop_args::{StopRequest, request_of};
-use crate::stream_args::{StreamAsked, StreamRun, read_stream_args};
+use crate::stream_args::{StreamRun, asked_stream};
 use crate::stream_ends::EndsFault;
 use crate::stream_words::{are_of_run, stream_option};
-use crate::words::COMMANDS;
-use clap::ArgMatches;
-use std::alloc::Global;
+use crate::words::{COMMANDS, Name, STREAM_COMMANDS};
+use std::alloc::{AllocError, Global};
 use std::fmt;
 
 /// What a command line asks for.
@@ -68,6 +69,14 @@ impl From<ArgFault> for CommandFault {
     }
 }
 
+impl From<AllocError> for CommandFault {
+    ghost from_gives = { λ _ told. told ≡ Arg Memory };
+
+    fn from(_error: AllocError) -> CommandFault {
+        CommandFault::Arg(ArgFault::Memory)
+    }
+}
+
 impl From<EndsFault> for CommandFault {
     ghost from_gives = { λ fault told. told ≡ Ends fault };
 
@@ -76,62 +85,10 @@ impl From<EndsFault> for CommandFault {
     }
 }
 
-/// Whether the words are those of a stream: of `run`, with `--stream` among them.
-fn are_of_a_stream(words: &[String]) -> bool
-    ensures { result ≡ true → has_word (codes "--stream") words.now ≡ true }
-{
-    are_of_run(words) && has_word(words, "--stream")
-}
-
-/// Tests that the words of a stream are at their places, and its flags what was typed. `clap` has found them.
-fn stream_placed(words: &[String], run: &StreamRun) -> Result<(), ArgFault>
-    ensures { IfOk result (λ done. HasStreamPlaces words.now run.now) }
-{
-    if run.until_quiet != has_flag(words, "--until-quiet")
-        || run.stop_on_halt != has_flag(words, "--stop-on-halt")
-        || run.has_progress != has_flag(words, "--progress")
-    {
-        return Err(ArgFault::Missing);
-    }
-    has_places(words, &["run", run.device.as_str()])
-}
-
-/// Reads the words of a stream.
-fn read_stream(alloc: Global, words: &[String]) -> Result<Command, CommandFault>
-    requires { has_word (codes "--stream") words.now ≡ true }
-    ensures range { IfOk result IsCommandInRange }
-    ensures typed { IfOk result (WasCommandTyped words.now) }
-    ensures places { IfOk result (HasCommandPlaces words.now) }
-    ensures refused { IfErr result (IsStreamRefused words.now) }
-{
-    match read_stream_args(alloc, words) {
-        Ok(StreamAsked::Run(run)) => match stream_placed(words, &run) {
-            Ok(()) => Ok(Command::Stream(run)),
-            Err(_) => Err(CommandFault::Arg(ArgFault::Missing)),
-        },
-        Ok(StreamAsked::Help(text)) => Ok(Command::Other(Asked::Help(text))),
-        Err(fault) => Err(fault),
-    }
-}
-
-/// What a command asks for that is no stream, and that `clap` found.
-fn command_in(alloc: Global, words: &[String], matches: &ArgMatches) -> Result<Command, ArgFault>
-    ensures range { IfOk result IsCommandInRange }
-    ensures typed { IfOk result (WasCommandTyped words.now) }
-    ensures places { IfOk result (HasCommandPlaces words.now) }
-{
-    let Some((name, found)) = matches.subcommand() else {
-        return Err(ArgFault::Missing);
-    };
-    match name {
-        "stop" => Ok(Command::Stop(request_of(alloc, words, found)?)),
-        "backup" => Ok(Command::Backup(backup_of(alloc, words, found)?)),
-        _ => Ok(Command::Other(asked_by(alloc, words, name, found)?)),
-    }
-}
-
 /// What is told of words that `clap` doesn't take: that an option goes with `--stream`, if one of them is such.
-fn fault_in(words: &[String], fault: ArgFault) -> ArgFault {
+fn fault_in(words: &[String], fault: ArgFault) -> ArgFault
+    ensures { IsUntaken words.now fault → IsUntaken words.now result }
+{
     match fault {
         ArgFault::Words(error) => match stream_option(words) {
             Some(id) => ArgFault::Stream(id),
@@ -141,31 +98,51 @@ fn fault_in(words: &[String], fault: ArgFault) -> ArgFault {
     }
 }
 
-/// Reads the words of a command that is no stream.
-fn read_other(alloc: Global, words: &[String]) -> Result<Command, ArgFault>
-    ensures range { IfOk result IsCommandInRange }
-    ensures typed { IfOk result (WasCommandTyped words.now) }
-    ensures places { IfOk result (HasCommandPlaces words.now) }
+/// What is told of a line that no command takes: how to call one if that is asked for, or else what is wrong.
+fn told_of(alloc: Global, words: &[String]) -> Result<String, ArgFault>
+    ensures help { OnOk result (asks_help words.now ≡ true) }
+    ensures refused { IfErr result (IsUntaken words.now) }
 {
-    match parse(alloc, words, COMMANDS) {
-        Ok(Parsed::Help(text)) => Ok(Command::Other(Asked::Help(text))),
-        Ok(Parsed::Found(matches)) => command_in(alloc, words, &matches),
+    if are_of_run(words) && has_flag(words, "--stream") {
+        return untaken(alloc, words, STREAM_COMMANDS);
+    }
+    match untaken(alloc, words, COMMANDS) {
+        Ok(text) => Ok(text),
         Err(fault) => Err(fault_in(words, fault)),
     }
 }
 
-/// What the words of a command line ask for.
+/// What a line asks for that is taken as this command.
+fn command_as(
+    alloc: Global,
+    words: &[String],
+    name: Name,
+    places: &[&str],
+) -> Result<Command, CommandFault>
+    requires { IsTakenAs words.now name (map (λ place. place.now) places.now) }
+    ensures range { IfOk result IsCommandInRange }
+    ensures typed { IfOk result (WasCommandTyped words.now) }
+    ensures places { IfOk result (HasCommandPlaces words.now) }
+    ensures refused { IfErr result (IsLineRefused name words.now (map (λ place. place.now) places.now)) }
+{
+    match name {
+        Name::Stream => Ok(Command::Stream(asked_stream(alloc, words, places)?)),
+        Name::Stop => Ok(Command::Stop(request_of(alloc, words, places)?)),
+        Name::Backup => Ok(Command::Backup(backup_of(alloc, words, places)?)),
+        name => Ok(Command::Other(asked_by(alloc, words, name, places)?)),
+    }
+}
+
+/// What a line asks for.
 fn read_command(alloc: Global, words: &[String]) -> Result<Command, CommandFault>
     ensures range { IfOk result IsCommandInRange }
     ensures typed { IfOk result (WasCommandTyped words.now) }
     ensures places { IfOk result (HasCommandPlaces words.now) }
+    ensures refused { IfErr result (λ fault. (fault ≡ Arg Memory) ⊎ IsRefusedBy (taken words.now) words.now fault) }
 {
-    if are_of_a_stream(words) {
-        return read_stream(alloc, words);
-    }
-    match read_other(alloc, words) {
-        Ok(command) => Ok(command),
-        Err(fault) => Err(CommandFault::Arg(fault)),
+    match taken(alloc, words)? {
+        Some(line) => command_as(alloc, words, line.name, line.places.as_slice()),
+        None => Ok(Command::Other(Asked::Help(told_of(alloc, words)?))),
     }
 }
 
@@ -177,13 +154,14 @@ fn is_help(command: &Command) -> bool
 }
 
 impl CommandLine {
-    /// Reads a command line, the program's name first. Each number is the decimal that was typed, and in its range; each text is one of
-    /// the words.
+    /// Reads a command line, the program's name first. A line asks for a command just if a command takes it, and for help only if a word asks for it.
+    /// Each number is the decimal that was typed, and in its range; each text is what was typed.
     pub fn read(alloc: Global, words: &[String]) -> Result<CommandLine, CommandFault>
         ensures range { IfOk result (λ line. IsCommandInRange line.command) }
         ensures typed { IfOk result (λ line. WasCommandTyped words.now line.command) }
         ensures places { IfOk result (λ line. HasCommandPlaces words.now line.command) }
         ensures explains { IfOk result (λ line. SaysExplaining words.now line.command line.explaining) }
+        ensures refused { IfErr result (IsRefusedLine words.now) }
     {
         let command = read_command(alloc, words)?;
         let explaining = match explaining_of(words) {

@@ -127,7 +127,7 @@ pub const TRACE: Form = Form {
         ),
         Word::Instead(
             "I",
-            "steps",
+            &["steps"],
             "the node's number, as in tpnet show: FILE is then a device, and it prints what the journal's entries did at that node",
         ),
         Word::Value(
@@ -167,7 +167,7 @@ pub const FORMAT: Form = Form {
         DIR,
         Word::Instead(
             "AREA",
-            "area",
+            &["area"],
             "the bytes of each of the two areas, up to 2^40: a decimal number, maybe with K, M or G after it, such as 64K (by default the least with room for 65536 journal entries between two checkpoints, as tpnet check says)",
         ),
     ],
@@ -302,7 +302,7 @@ pub const WAITS: Form = Form {
         EXPLAIN,
         NO_EXPLAIN,
         JSON,
-        Word::Unless("dot", "json", "draw it, as a graph for Graphviz"),
+        Word::Unless("dot", &["json"], "draw it, as a graph for Graphviz"),
         MAPS,
         DEVICE,
     ],
@@ -351,7 +351,7 @@ pub const PORT: Form = Form {
         Word::Flag("pending", "the inputs that no node has taken"),
         Word::Unless(
             "outputs",
-            "pending",
+            &["pending"],
             "the outputs that aren't confirmed (this is the default)",
         ),
     ],

@@ -1,49 +1,35 @@
-//! What `clap` found among the words, and that it was typed.
+//! What was typed for an option, or at a place.
 
-ghost use Rattle.std.specs.Prelude.{◌≡◌, ◌≤◌, ◌<◌, ◌⊎◌, ◌^◌, true, None, Some, IfErr, IfOk, IfSome, OnOk, codes, string_bytes};
-ghost use Rattle.tp_words.specs.Lower.{first_value, found_of, decimal, option_map};
-ghost use Rattle.tp_words.specs.Given.{given, has_flag, IsGivenOr};
-ghost use Rattle.tp_words.specs.Numbers.{Fits, FoundOther, IsNumberFault};
-ghost use Rattle.tp_words.specs.Places.{IsFound};
-ghost use Rattle.tp_words.specs.Size.{IsArea, IsSize, IsSizeOf, IsWordSize};
-ghost use Rattle.tp_words.specs.StreamRefused.{FoundNoWord};
-ghost use Rattle.tp_words.specs.Typed.{has_word, was_typed};
-ghost use Rattle.tp_words.specs.declared.arg_fault.ArgFault.TheVariants.{Missing, Memory};
+ghost use Rattle.std.specs.Prelude.{◌≡◌, ◌≤◌, ◌<◌, ◌⊎◌, ◌^◌, ◌≢◌, ◌∷◌, [], None, Some, IfErr, IfOk, IfSome, OnOk, codes, length, map, string_bytes};
+ghost use Rattle.tp_words.specs.Lower.{decimal, option_map};
+ghost use Rattle.tp_words.specs.Given.{given, IsGivenOr};
+ghost use Rattle.tp_words.specs.Numbers.{Fits, IsNumberFault, IsPlaceFault, turns_option};
+ghost use Rattle.tp_words.specs.Size.{IsAreaFault, IsAreaOf, IsSize, IsSizeFault};
+ghost use Rattle.tp_words.specs.declared.arg_fault.ArgFault.TheVariants.{Missing};
 
 use crate::arg_fault::ArgFault;
 use crate::args::{MAX_AREA, MAX_TURNS};
-use crate::numbers::{given, has_flag, has_word, number_of, was_typed};
+use crate::numbers::{after_first, given_in, number_of};
 use crate::sizes::size_of;
-use clap::ArgMatches;
-use std::alloc::Global;
+use std::alloc::{AllocError, Global};
 
-/// What was typed for an option, by the words themselves. `clap` has to have found that too.
-fn option_text<'a>(
+/// What was typed for an option.
+pub fn option_text<'a>(
     alloc: Global,
-    words: &[String],
-    found: &'a ArgMatches,
+    words: &'a [String],
     id: &str,
-) -> Result<Option<&'a str>, ArgFault>
-    ensures typed { IfOk result (λ text. option_map (λ typed. typed.now) text ≡ given id.now words.now) }
-    ensures refused { IfErr result (λ fault. (fault ≡ Memory) ⊎ ((fault ≡ Missing) × FoundOther found.now words.now id.now)) }
+) -> Result<Option<&'a str>, AllocError>
+    ensures { IfOk result (λ text. option_map (λ typed. typed.now) text ≡ given id.now words.now) }
 {
     let name = format!(in alloc; "--{id}")?;
     let ending = format!(in alloc; "--{id}=")?;
-    match (
-        given(words, name.as_str(), ending.as_str()),
-        found.get_str(id),
-    ) {
-        (Some(typed), Some(text)) if text.as_bytes() == typed => Ok(Some(text)),
-        (None, None) => Ok(None),
-        _ => Err(ArgFault::Missing),
-    }
+    Ok(given_in(after_first(words), name.as_str(), ending.as_str()))
 }
 
 /// The number that was typed for an option, which has to be in its range.
 pub fn option_number(
     alloc: Global,
     words: &[String],
-    found: &ArgMatches,
     id: &'static str,
     least: u64,
     most: u64,
@@ -51,9 +37,9 @@ pub fn option_number(
     ensures range { IfOk result (λ found. IfSome found (λ number. (least ≤ number) × (number ≤ most))) }
     ensures typed { IfOk result (λ found. given id.now words.now ≡ option_map decimal found) }
     ensures fits { OnOk result (Fits words.now (record { id = id.now; least = least; most = most })) }
-    ensures refused { IfErr result (IsNumberFault found.now words.now (record { id = id.now; least = least; most = most })) }
+    ensures refused { IfErr result (IsNumberFault words.now (record { id = id.now; least = least; most = most })) }
 {
-    let Some(text) = option_text(alloc, words, found, id)? else {
+    let Some(text) = option_text(alloc, words, id)? else {
         return Ok(None);
     };
     match number_of(alloc, text)? {
@@ -66,7 +52,6 @@ pub fn option_number(
 pub fn option_short(
     alloc: Global,
     words: &[String],
-    found: &ArgMatches,
     id: &'static str,
     least: u64,
     most: u64,
@@ -75,9 +60,9 @@ pub fn option_short(
     ensures range { IfOk result (λ found. IfSome found (λ number. (least ≤ number) × (number ≤ most))) }
     ensures typed { IfOk result (λ found. given id.now words.now ≡ option_map decimal found) }
     ensures fits { OnOk result (Fits words.now (record { id = id.now; least = least; most = most })) }
-    ensures refused { IfErr result (IsNumberFault found.now words.now (record { id = id.now; least = least; most = most })) }
+    ensures refused { IfErr result (IsNumberFault words.now (record { id = id.now; least = least; most = most })) }
 {
-    match option_number(alloc, words, found, id, least, most)? {
+    match option_number(alloc, words, id, least, most)? {
         Some(number) => Ok(Some(number as u32)),
         None => Ok(None),
     }
@@ -87,7 +72,6 @@ pub fn option_short(
 pub fn option_or(
     alloc: Global,
     words: &[String],
-    found: &ArgMatches,
     id: &'static str,
     least: u64,
     most: u64,
@@ -97,9 +81,9 @@ pub fn option_or(
     ensures range { IfOk result (λ number. (least ≤ number) × (number ≤ most)) }
     ensures typed { IfOk result (λ number. IsGivenOr fallback number (given id.now words.now)) }
     ensures fits { OnOk result (Fits words.now (record { id = id.now; least = least; most = most })) }
-    ensures refused { IfErr result (IsNumberFault found.now words.now (record { id = id.now; least = least; most = most })) }
+    ensures refused { IfErr result (IsNumberFault words.now (record { id = id.now; least = least; most = most })) }
 {
-    match option_number(alloc, words, found, id, least, most)? {
+    match option_number(alloc, words, id, least, most)? {
         Some(number) => Ok(number),
         None => Ok(fallback),
     }
@@ -109,23 +93,23 @@ pub fn option_or(
 pub fn option_string(
     alloc: Global,
     words: &[String],
-    found: &ArgMatches,
     id: &str,
-) -> Result<Option<String>, ArgFault>
-    ensures typed { IfOk result (λ text. given id.now words.now ≡ option_map string_bytes text) }
-    ensures refused { IfErr result (λ fault. (fault ≡ Memory) ⊎ ((fault ≡ Missing) × FoundOther found.now words.now id.now)) }
+) -> Result<Option<String>, AllocError>
+    ensures { IfOk result (λ text. given id.now words.now ≡ option_map string_bytes text) }
 {
-    match option_text(alloc, words, found, id)? {
+    match option_text(alloc, words, id)? {
         Some(text) => Ok(Some(String::from_str(alloc, text)?)),
         None => Ok(None),
     }
 }
 
-/// How many turns are made.
-pub fn turns_of(alloc: Global, words: &[String], found: &ArgMatches) -> Result<u32, ArgFault>
-    ensures { IfOk result (λ turns. given (codes "turns") words.now ≡ Some (decimal turns)) }
+/// How many turns are made. `Missing` comes only if none were typed, and such a line isn't taken.
+pub fn turns_of(alloc: Global, words: &[String]) -> Result<u32, ArgFault>
+    ensures typed { IfOk result (λ turns. given (codes "turns") words.now ≡ Some (decimal turns)) }
+    ensures fits { OnOk result (Fits words.now turns_option) }
+    ensures refused { IfErr result (λ fault. IsNumberFault words.now turns_option fault ⊎ ((fault ≡ Missing) × (given (codes "turns") words.now ≡ None))) }
 {
-    match option_short(alloc, words, found, "turns", 0, MAX_TURNS)? {
+    match option_short(alloc, words, "turns", 0, MAX_TURNS)? {
         Some(turns) => Ok(turns),
         None => Err(ArgFault::Missing),
     }
@@ -135,95 +119,59 @@ pub fn turns_of(alloc: Global, words: &[String], found: &ArgMatches) -> Result<u
 fn size_area(alloc: Global, text: &str, name: &'static str) -> Result<u64, ArgFault>
     ensures range { IfOk result (λ area. area ≤ MAX_AREA) }
     ensures typed { IfOk result (IsSize text.now) }
+    ensures refused { IfErr result (IsSizeFault name.now (Some text.now)) }
 {
-    match size_of(alloc, text)? {
-        Some(size) if size <= MAX_AREA => Ok(size),
-        _ => Err(ArgFault::Size(name)),
+    match size_of(alloc, text, MAX_AREA)? {
+        Some(size) => Ok(size),
+        None => Err(ArgFault::Size(name)),
     }
-}
-
-/// How many bytes an area has, by the word of it, if there is one.
-fn word_area(alloc: Global, words: &[String], found: &ArgMatches) -> Result<Option<u64>, ArgFault>
-    ensures range { IfOk result (λ area. IfSome area (λ area. area ≤ MAX_AREA)) }
-    ensures typed { IfOk result (λ area. IfSome area (IsWordSize words.now)) }
-    ensures placed { IfOk result (IsSizeOf (first_value (found_of found.now) (codes "AREA"))) }
-{
-    let Some(text) = found.get_str("AREA") else {
-        return Ok(None);
-    };
-    if !has_word(words, text) {
-        return Err(ArgFault::Missing);
-    }
-    Ok(Some(size_area(alloc, text, "AREA")?))
 }
 
 /// How many bytes an area has: by `--area`, or else by the word of it; `None`: neither is given.
-pub fn area_of(alloc: Global, words: &[String], found: &ArgMatches) -> Result<Option<u64>, ArgFault>
+pub fn area_of(
+    alloc: Global,
+    words: &[String],
+    place: Option<&str>,
+) -> Result<Option<u64>, ArgFault>
     ensures range { IfOk result (λ area. IfSome area (λ area. area ≤ MAX_AREA)) }
-    ensures typed { IfOk result (λ area. IsArea words.now area (given (codes "area") words.now)) }
-    ensures placed { IfOk result (λ area. given (codes "area") words.now ≡ None → IsSizeOf (first_value (found_of found.now) (codes "AREA")) area) }
+    ensures typed { IfOk result (IsAreaOf (given (codes "area") words.now) (option_map (λ text. text.now) place.entry)) }
+    ensures refused { IfErr result (IsAreaFault (given (codes "area") words.now) (option_map (λ text. text.now) place.entry)) }
 {
-    match option_text(alloc, words, found, "area")? {
-        Some(text) => Ok(Some(size_area(alloc, text, "--area")?)),
-        None => word_area(alloc, words, found),
+    if let Some(text) = option_text(alloc, words, "area")? {
+        return Ok(Some(size_area(alloc, text, "--area")?));
+    }
+    match place {
+        Some(text) => Ok(Some(size_area(alloc, text, "AREA")?)),
+        None => Ok(None),
     }
 }
 
-/// The text that was typed for `id`.
-pub fn text_of(
-    alloc: Global,
-    words: &[String],
-    found: &ArgMatches,
-    id: &str,
-) -> Result<String, ArgFault>
-    ensures typed { IfOk result (λ text. has_word (string_bytes text) words.now ≡ true) }
-    ensures found { IfOk result (IsFound found.now id.now) }
-    ensures refused { IfErr result (λ fault. (fault ≡ Memory) ⊎ ((fault ≡ Missing) × FoundNoWord found.now words.now id.now)) }
+/// The number of a node or a port, at its place.
+pub fn place_of(alloc: Global, text: &str) -> Result<u64, ArgFault>
+    ensures typed { IfOk result (λ number. text.now ≡ decimal number) }
+    ensures refused { IfErr result (IsPlaceFault text.now) }
 {
-    let Some(text) = found.get_str(id) else {
-        return Err(ArgFault::Missing);
-    };
-    if !has_word(words, text) {
-        return Err(ArgFault::Missing);
-    }
-    Ok(String::from_str(alloc, text)?)
-}
-
-/// The number of a node, a port or an entry.
-pub fn place_of(
-    alloc: Global,
-    words: &[String],
-    found: &ArgMatches,
-    id: &str,
-) -> Result<u64, ArgFault>
-    ensures { IfOk result (λ number. was_typed words.now (decimal number) ≡ true) }
-{
-    let Some(text) = found.get_str(id) else {
-        return Err(ArgFault::Missing);
-    };
-    if !was_typed(alloc, words, text)? {
-        return Err(ArgFault::Missing);
-    }
     match number_of(alloc, text)? {
         Some(number) => Ok(number),
         None => Err(ArgFault::Number),
     }
 }
 
-/// Whether `--json` was typed.
-pub fn json_of(words: &[String], found: &ArgMatches) -> Result<bool, ArgFault>
-    ensures { IfOk result (λ json. json ≡ has_flag (codes "--json") words.now) }
+/// The one place of a line that has one.
+pub fn only<'a>(places: &[&'a str]) -> Option<&'a str>
+    ensures some { IfSome result (λ text. map (λ place. place.now) places.now ≡ text.now ∷ []) }
+    ensures none { result ≡ None → length (map (λ place. place.now) places.now) ≢ 1 }
 {
-    flag_of(words, found, "json", "--json")
+    let (text, others) = places.split_first()?;
+    if others.is_empty() { Some(*text) } else { None }
 }
 
-/// Whether the flag `name` of `id` was typed, by the words themselves. `clap` has to have found that too.
-pub fn flag_of(words: &[String], found: &ArgMatches, id: &str, name: &str) -> Result<bool, ArgFault>
-    ensures { IfOk result (λ flag. flag ≡ has_flag name.now words.now) }
+/// The places of a line that has two.
+pub fn pair<'a>(places: &[&'a str]) -> Option<(&'a str, &'a str)>
+    ensures some { IfSome result (λ pair. map (λ place. place.now) places.now ≡ pair.0.now ∷ pair.1.now ∷ []) }
+    ensures none { result ≡ None → length (map (λ place. place.now) places.now) ≢ 2 }
 {
-    let flag = has_flag(words, name);
-    if flag != found.get_flag(id) {
-        return Err(ArgFault::Missing);
-    }
-    Ok(flag)
+    let (first, others) = places.split_first()?;
+    let second = only(others)?;
+    Some((*first, second))
 }

@@ -1,9 +1,9 @@
 //! Words and numbers that were typed.
 
-ghost use Rattle.std.specs.Prelude.{◌≡◌, ◌≢◌, ◌<◌, ◌^◌, ℕ, None, IfOk, IfSome, bytes_eq, map, string_bytes};
-ghost use Rattle.tp_words.specs.Lower.{pointwise, decimal, option_map};
-ghost use Rattle.tp_words.specs.Given.{all_given_in, given_in, has_flag, value_in, value_of};
-ghost use Rattle.tp_words.specs.Typed.{has_value, has_word, is_value, is_word, was_typed};
+ghost use Rattle.std.specs.Prelude.{◌≡◌, ◌≢◌, ◌<◌, ◌^◌, ℕ, None, IfOk, IfSome, drop, map, string_bytes};
+ghost use Rattle.tp_words.specs.Lower.{decimal, option_map};
+ghost use Rattle.tp_words.specs.Given.{all_given_in, given_in, has_flag, has_flag_in, value_in, value_of};
+ghost use Rattle.tp_words.specs.Typed.{has_word, is_word};
 
 use std::alloc::{AllocError, Global};
 
@@ -12,13 +12,6 @@ pub fn is_word(word: &String, text: &str) -> bool
     ensures { result ≡ is_word text.now word.now }
 {
     word.as_bytes() == text.as_bytes()
-}
-
-/// Whether a word is an option with this value: it ends with `=` and the value.
-fn is_value(word: &String, ending: &str) -> bool
-    ensures { result ≡ is_value ending.now word.now }
-{
-    word.as_bytes().ends_with(ending.as_bytes())
 }
 
 /// Whether one of the words is this one.
@@ -31,25 +24,6 @@ pub fn has_word(words: &[String], text: &str) -> bool
         }
     }
     false
-}
-
-fn has_value(words: &[String], ending: &str) -> bool
-    ensures { result ≡ has_value ending.now words.now }
-{
-    for word in words {
-        if is_value(word, ending) {
-            return true;
-        }
-    }
-    false
-}
-
-/// Whether this value was typed: a word is it, or ends with `=` and it.
-pub fn was_typed(alloc: Global, words: &[String], text: &str) -> Result<bool, AllocError>
-    ensures { IfOk result (λ typed. typed ≡ was_typed words.now text.now) }
-{
-    let ending = format!(in alloc; "={text}")?;
-    Ok(has_word(words, text) || has_value(words, ending.as_str()))
 }
 
 /// The number whose decimal this text is; `None`: it is that of no number below 2^64.
@@ -68,15 +42,25 @@ pub fn number_of(alloc: Global, text: &str) -> Result<Option<u64>, AllocError>
     Ok(Some(number))
 }
 
+/// The words after the first one, which is the program's name.
+pub fn after_first(words: &[String]) -> &[String]
+    ensures { result.now ≡ drop 1 words.now }
+{
+    match words.split_first() {
+        Some((_, rest)) => rest,
+        None => words,
+    }
+}
+
 /// What is after an ending such as `--turns=`, if a word begins with it.
-fn value_in<'a>(word: &'a String, ending: &str) -> Option<&'a [u8]>
+fn value_in<'a>(word: &'a String, ending: &str) -> Option<&'a str>
     ensures { option_map (λ text. text.now) result ≡ value_in ending.now (string_bytes word.now) }
 {
-    word.as_bytes().strip_prefix(ending.as_bytes())
+    word.as_str().strip_prefix(ending)
 }
 
 /// What was typed for the option of this name, whose ending is the name with `=` after it.
-pub fn given<'a>(words: &'a [String], name: &str, ending: &str) -> Option<&'a [u8]>
+pub fn given_in<'a>(words: &'a [String], name: &str, ending: &str) -> Option<&'a str>
     ensures { option_map (λ text. text.now) result ≡ given_in name.now ending.now words.now }
 {
     let (word, rest) = words.split_first()?;
@@ -84,49 +68,61 @@ pub fn given<'a>(words: &'a [String], name: &str, ending: &str) -> Option<&'a [u
         return None;
     }
     if is_word(word, name) {
-        return Some(rest.first()?.as_bytes());
+        return Some(rest.first()?.as_str());
     }
     match value_in(word, ending) {
         Some(text) => Some(text),
-        None => given(rest, name, ending),
+        None => given_in(rest, name, ending),
     }
 }
 
 /// What a word says for the option of this name, whose ending is the name with `=` after it; `rest` is after it.
-fn value_of<'a>(word: &'a String, rest: &'a [String], name: &str, ending: &str) -> Option<&'a [u8]>
+fn value_of<'a>(word: &'a String, rest: &'a [String], name: &str, ending: &str) -> Option<&'a str>
     ensures { option_map (λ text. text.now) result ≡ value_of name.now ending.now word.now rest.now }
 {
     if is_word(word, name) {
-        return Some(rest.first()?.as_bytes());
+        return Some(rest.first()?.as_str());
     }
     value_in(word, ending)
 }
 
-/// Whether the texts are all that was typed for the option of this name, whose ending is the name with `=` after it, in order.
-pub fn are_given(words: &[String], texts: &[&str], name: &str, ending: &str) -> bool
-    ensures { result ≡ pointwise bytes_eq (map (λ text. text.now) texts.now) (all_given_in name.now ending.now words.now) }
+/// All that was typed for the option of this name, whose ending is the name with `=` after it, in order.
+pub fn all_given_in<'a>(
+    alloc: Global,
+    words: &'a [String],
+    name: &str,
+    ending: &str,
+) -> Result<Vec<&'a str>, AllocError>
+    ensures { IfOk result (λ texts. map (λ text. text.now) texts.items ≡ all_given_in name.now ending.now words.now) }
 {
     let Some((word, rest)) = words.split_first() else {
-        return texts.is_empty();
+        return Ok(Vec::new(alloc));
     };
     if is_word(word, "--") {
-        return texts.is_empty();
+        return Ok(Vec::new(alloc));
     }
-    let Some(value) = value_of(word, rest, name, ending) else {
-        return are_given(rest, texts, name, ending);
-    };
-    let Some((text, others)) = texts.split_first() else {
-        return false;
-    };
-    text.as_bytes() == value && are_given(rest, others, name, ending)
+    let mut texts = all_given_in(alloc, rest, name, ending)?;
+    if let Some(text) = value_of(word, rest, name, ending) {
+        if texts.insert(0, text).is_err() {
+            return Err(AllocError);
+        }
+    }
+    Ok(texts)
 }
 
 /// Whether the flag of this name was typed: one of the words is it, and no word `--` is before that.
-pub fn has_flag(words: &[String], name: &str) -> bool
-    ensures { result ≡ has_flag name.now words.now }
+fn has_flag_in(words: &[String], name: &str) -> bool
+    ensures { result ≡ has_flag_in name.now words.now }
 {
     let Some((word, rest)) = words.split_first() else {
         return false;
     };
-    !is_word(word, "--") && (is_word(word, name) || has_flag(rest, name))
+    !is_word(word, "--") && (is_word(word, name) || has_flag_in(rest, name))
+}
+
+/// Whether the flag of this name was typed in a line.
+pub fn has_flag(words: &[String], name: &str) -> bool
+    ensures { result ≡ has_flag name.now words.now }
+{
+    has_flag_in(after_first(words), name)
 }

@@ -1,50 +1,24 @@
-//! What `clap` makes of words.
+//! What is told of a line that no command takes.
 
-ghost use Rattle.std.specs.Prelude.{◌≡◌, ◌≤◌, ◌↔◌, IfErr, IfOk, IfSome, IsTrue, OnOk, length};
+ghost use Rattle.std.specs.Prelude.{◌≡◌, ◌↔◌, true, IfErr, IfOk, IfSome, IsTrue, OnOk};
+ghost use Rattle.tp_words.specs.Lines.{asks_help};
 ghost use Rattle.tp_words.specs.Lower.{kind_of, OutOfMemory};
-ghost use Rattle.tp_words.specs.Parsing.{IsMistake, IsUnparsed, IsUntaken};
-ghost use Rattle.tp_words.specs.declared.args.TheConstants.{MAX_WORDS};
+ghost use Rattle.tp_words.specs.Parsing.{IsMistake};
+ghost use Rattle.tp_words.specs.Refused.{IsUntaken};
 
 use crate::arg_fault::ArgFault;
 use crate::args::MAX_WORDS;
+use crate::line::asks_help;
 use crate::shown::shown_words;
 use crate::words::{Name, command};
-use clap::ArgMatches;
 use clap::error::ErrorKind;
 use std::alloc::{AllocError, Global};
-
-/// What `clap` makes of words that it takes.
-#[derive(Drop)]
-pub enum Parsed<'a> {
-    /// How to call the program, or which version it is.
-    Help(String),
-    /// What it found among them.
-    Found(ArgMatches<'a>),
-}
 
 /// Whether `clap` ran out of memory.
 fn wants_memory(error: &clap::Error) -> bool
     ensures { IsTrue result ↔ (kind_of error.now ≡ OutOfMemory) }
 {
     error.kind() == ErrorKind::OutOfMemory
-}
-
-/// What is told if `clap` finds nothing: out of memory, or its text, which is no fault if help or the version was asked for.
-fn unfound<'a>(
-    alloc: Global,
-    words: &[String],
-    names: &[Name],
-    error: clap::Error,
-) -> Result<Parsed<'a>, ArgFault>
-    ensures { IfErr result IsUntaken }
-{
-    if wants_memory(&error) {
-        return Err(ArgFault::Memory);
-    }
-    if error.use_stderr() {
-        return Err(ArgFault::Words(shown_error(alloc, words, names, error)?));
-    }
-    Ok(Parsed::Help(format!(in alloc; "{error}")?))
 }
 
 /// What `clap` says of words that it doesn't take; `None`: it takes them, or they ask for help.
@@ -83,16 +57,38 @@ fn shown_error(
     }
 }
 
-/// Reads the words of a command line by `clap`, as those of a command of these names. Asking for help is no fault.
-pub fn parse<'a>(alloc: Global, words: &'a [String], names: &[Name]) -> Result<Parsed<'a>, ArgFault>
-    ensures few { OnOk result (length words.now ≤ MAX_WORDS) }
-    ensures refused { IfErr result (IsUnparsed words.now) }
+/// What is told if `clap` doesn't take the words: out of memory, or its text, which is no fault if help or the version was asked for.
+fn unfound(
+    alloc: Global,
+    words: &[String],
+    names: &[Name],
+    error: clap::Error,
+) -> Result<String, ArgFault>
+    ensures help { OnOk result (asks_help words.now ≡ true) }
+    ensures refused { IfErr result (IsUntaken words.now) }
+{
+    if wants_memory(&error) {
+        return Err(ArgFault::Memory);
+    }
+    if error.use_stderr() {
+        return Err(ArgFault::Words(shown_error(alloc, words, names, error)?));
+    }
+    if !asks_help(words) {
+        return Err(ArgFault::Missing);
+    }
+    Ok(format!(in alloc; "{error}")?)
+}
+
+/// What is told of a line that no command takes: how to call one of these commands if that is asked for, or else what is wrong, as `clap` says it.
+pub fn untaken(alloc: Global, words: &[String], names: &[Name]) -> Result<String, ArgFault>
+    ensures help { OnOk result (asks_help words.now ≡ true) }
+    ensures refused { IfErr result (IsUntaken words.now) }
 {
     if words.len() > MAX_WORDS {
         return Err(ArgFault::Many);
     }
     match command(alloc, names)?.try_get_matches_from(words) {
-        Ok(matches) => Ok(Parsed::Found(matches)),
+        Ok(_matches) => Err(ArgFault::Missing),
         Err(error) => unfound(alloc, words, names, error),
     }
 }

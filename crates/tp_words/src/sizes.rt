@@ -1,9 +1,10 @@
 //! Sizes that were typed, as `64K`.
 
-ghost use Rattle.std.specs.Prelude.{◌≡◌, ◌*◌, ◌++◌, IfOk, IfSome};
+ghost use Rattle.std.specs.Prelude.{◌≡◌, ◌≢◌, ◌≤◌, ◌<◌, ◌^◌, ◌++◌, ℕ, None, IfOk, IfSome};
 ghost use Rattle.std.specs.Fmt.{decimal};
-ghost use Rattle.tp_words.specs.Size.{IsSize, bytes_each, letter};
+ghost use Rattle.tp_words.specs.Size.{IsNoSize, IsNoSizeIn, IsSize, bytes_each, letter};
 
+use crate::numbers::number_of;
 use std::alloc::{AllocError, Global};
 
 /// What a size is counted in.
@@ -39,42 +40,49 @@ fn bytes_each(measure: Measure) -> u64
     }
 }
 
-/// The number whose decimal is before these letters in a text that ends with them.
+/// The number whose decimal is before these letters in a text that ends with them; `None`: there is none below 2^64.
 fn number_before(alloc: Global, text: &str, letters: &str) -> Result<Option<u64>, AllocError>
-    ensures { IfOk result (λ found. IfSome found (λ number. text.now ≡ decimal number ++ letters.now)) }
+    ensures some { IfOk result (λ found. IfSome found (λ number. (number < 2 ^ 64) × (text.now ≡ decimal number ++ letters.now))) }
+    ensures none { IfOk result (λ found. found ≡ None → (number : ℕ) → number < 2 ^ 64 → text.now ≢ decimal number ++ letters.now) }
 {
     let Some(front) = text.strip_suffix(letters) else {
         return Ok(None);
     };
-    let Ok(number) = front.parse::<u64>() else {
+    number_of(alloc, front)
+}
+
+/// The size that a text says in a measure, if it says one up to `most`.
+fn size_in(
+    alloc: Global,
+    text: &str,
+    measure: Measure,
+    most: u64,
+) -> Result<Option<u64>, AllocError>
+    ensures some { IfOk result (λ found. IfSome found (λ size. (size ≤ most) × IsSize text.now size)) }
+    ensures none { IfOk result (λ found. found ≡ None → IsNoSizeIn measure text.now most) }
+{
+    let Some(number) = number_before(alloc, text, letter(measure))? else {
         return Ok(None);
     };
-    let spelt = format!(in alloc; "{number}{letters}")?;
-    if spelt.as_bytes() == text.as_bytes() {
-        Ok(Some(number))
-    } else {
-        Ok(None)
+    match number.checked_mul(bytes_each(measure)) {
+        Some(size) if size <= most => Ok(Some(size)),
+        _ => Ok(None),
     }
 }
 
-/// The size that a text says in a measure, if it says one below 2^64.
-fn size_in(alloc: Global, text: &str, measure: Measure) -> Result<Option<u64>, AllocError>
-    ensures { IfOk result (λ found. IfSome found (IsSize text.now)) }
+/// The size that a text says, if it says one up to `most`.
+pub fn size_of(alloc: Global, text: &str, most: u64) -> Result<Option<u64>, AllocError>
+    ensures some { IfOk result (λ found. IfSome found (λ size. (size ≤ most) × IsSize text.now size)) }
+    ensures none { IfOk result (λ found. found ≡ None → IsNoSize text.now most) }
 {
-    match number_before(alloc, text, letter(measure))? {
-        Some(number) => Ok(number.checked_mul(bytes_each(measure))),
-        None => Ok(None),
+    if let Some(size) = size_in(alloc, text, Measure::Bytes, most)? {
+        return Ok(Some(size));
     }
-}
-
-/// The size that a text says, if it says one below 2^64.
-pub fn size_of(alloc: Global, text: &str) -> Result<Option<u64>, AllocError>
-    ensures { IfOk result (λ found. IfSome found (IsSize text.now)) }
-{
-    for measure in [Measure::Bytes, Measure::Kilo, Measure::Mega, Measure::Giga] {
-        if let Some(size) = size_in(alloc, text, measure)? {
-            return Ok(Some(size));
-        }
+    if let Some(size) = size_in(alloc, text, Measure::Kilo, most)? {
+        return Ok(Some(size));
     }
-    Ok(None)
+    if let Some(size) = size_in(alloc, text, Measure::Mega, most)? {
+        return Ok(Some(size));
+    }
+    size_in(alloc, text, Measure::Giga, most)
 }

@@ -1,34 +1,28 @@
 //! What a command line with `--stream` asks for.
 
-ghost use Rattle.std.specs.Prelude.{◌≤◌, IfErr, IfOk, OnOk, length};
-ghost use Rattle.tp_words.specs.declared.args.TheConstants.{MAX_WORDS};
+ghost use Rattle.std.specs.Prelude.{◌≡◌, true, IfErr, IfOk, OnOk, codes, map, string_bytes};
+ghost use Rattle.tp_words.specs.Commands.{HasStreamFlags, HasStreamPlaces};
+ghost use Rattle.tp_words.specs.Ends.{AreEnds};
 ghost use Rattle.tp_words.specs.Numbers.{AllFit, IsFirstNumberFault};
-ghost use Rattle.tp_words.specs.StreamArgs.{AreInRange, AreTyped, IsStreamInRange, WasStreamTyped};
-ghost use Rattle.tp_words.specs.StreamRefused.{IsMatchRefused, IsRunRefused, IsStreamRefused, number_options};
+ghost use Rattle.tp_words.specs.Places.{IsTakenAs};
+ghost use Rattle.tp_words.specs.Refused.{IsStreamRefused};
+ghost use Rattle.tp_words.specs.StreamArgs.{AreInRange, AreTyped, IsStreamRun, IsTypedStream};
+ghost use Rattle.tp_words.specs.StreamRefused.{IsRunRefused, number_options};
+ghost use Rattle.tp_words.specs.Typed.{has_word};
+ghost use Rattle.tp_words.specs.declared.words.Name.TheVariants as of;
 
 use crate::arg_fault::ArgFault;
 use crate::args::{MAX_TURNS, MAX_WORKERS};
 use crate::command::CommandFault;
 use crate::device_args::{pace_of, wait_of};
-use crate::found::{option_short, option_string, text_of};
-use crate::parsing::{Parsed, parse};
+use crate::found::{only, option_short, option_string};
+use crate::numbers::{has_flag, has_word};
 use crate::stream_ends::ends_of;
-use crate::words::STREAM_COMMANDS;
-use clap::ArgMatches;
 use std::alloc::Global;
 use tp_stream_files::Ends;
 
 /// The most seconds after which it is said again how far a stream has come.
 pub const MAX_PROGRESS: u64 = 3600;
-
-/// What a command line with `--stream` asks for.
-#[derive(Drop)]
-pub enum StreamAsked {
-    /// How to call it.
-    Help(String),
-    /// A stream of a device's network.
-    Run(StreamRun),
-}
 
 /// A stream of a device's network: its file, how many turns are made and how, when it ends, and the ends of its ports.
 #[derive(Drop)]
@@ -72,21 +66,17 @@ struct StreamNumbers {
 }
 
 /// The numbers of a stream that were found among the words.
-fn numbers_of(
-    alloc: Global,
-    words: &[String],
-    found: &ArgMatches,
-) -> Result<StreamNumbers, ArgFault>
+fn numbers_of(alloc: Global, words: &[String]) -> Result<StreamNumbers, ArgFault>
     ensures range { IfOk result AreInRange }
     ensures typed { IfOk result (AreTyped words.now) }
     ensures fit { OnOk result (AllFit words.now number_options) }
-    ensures refused { IfErr result (IsFirstNumberFault found.now words.now number_options) }
+    ensures refused { IfErr result (IsFirstNumberFault words.now number_options) }
 {
-    let turns = option_short(alloc, words, found, "turns", 0, MAX_TURNS)?;
-    let seconds = option_short(alloc, words, found, "progress-every", 1, MAX_PROGRESS)?;
-    let workers = option_short(alloc, words, found, "workers", 1, MAX_WORKERS as u64)?;
-    let pace = pace_of(alloc, words, found)?;
-    let wait_lock = wait_of(alloc, words, found)?;
+    let turns = option_short(alloc, words, "turns", 0, MAX_TURNS)?;
+    let seconds = option_short(alloc, words, "progress-every", 1, MAX_PROGRESS)?;
+    let workers = option_short(alloc, words, "workers", 1, MAX_WORKERS as u64)?;
+    let pace = pace_of(alloc, words)?;
+    let wait_lock = wait_of(alloc, words)?;
     Ok(StreamNumbers {
         turns,
         progress_every: seconds,
@@ -98,57 +88,52 @@ fn numbers_of(
     })
 }
 
-/// The stream that was found among the words.
+/// The stream that a line asks for.
 #[tactic(auto, unfolding(crate::specs::StreamArgs::IsStreamRun))]
-fn run_of(alloc: Global, words: &[String], found: &ArgMatches) -> Result<StreamAsked, CommandFault>
-    ensures range { IfOk result IsStreamInRange }
-    ensures typed { IfOk result (WasStreamTyped words.now) }
-    ensures refused { IfErr result (IsRunRefused found.now words.now) }
+fn run_of(alloc: Global, words: &[String], device: &str) -> Result<StreamRun, CommandFault>
+    ensures range { IfOk result (λ run. IsStreamRun run × AreEnds run.ends) }
+    ensures typed { IfOk result (IsTypedStream words.now) }
+    ensures flags { IfOk result (HasStreamFlags words.now) }
+    ensures device { IfOk result (λ run. string_bytes run.device ≡ device.now) }
+    ensures refused { IfErr result (IsRunRefused words.now) }
 {
-    let numbers = numbers_of(alloc, words, found)?;
-    Ok(StreamAsked::Run(StreamRun {
+    let numbers = numbers_of(alloc, words)?;
+    Ok(StreamRun {
         turns: numbers.turns,
-        until_quiet: found.get_flag("until-quiet"),
-        stop_on_halt: found.get_flag("stop-on-halt"),
-        stop_file: option_string(alloc, words, found, "stop-file")?,
-        has_progress: found.get_flag("progress"),
+        until_quiet: has_flag(words, "--until-quiet"),
+        stop_on_halt: has_flag(words, "--stop-on-halt"),
+        stop_file: option_string(alloc, words, "stop-file")?,
+        has_progress: has_flag(words, "--progress"),
         progress_every: numbers.progress_every,
         workers: numbers.workers,
         quantum: numbers.quantum,
         spare: numbers.spare,
         every: numbers.every,
         wait_lock: numbers.wait_lock,
-        device: text_of(alloc, words, found, "DEVICE")?,
-        ends: ends_of(alloc, words, found)?,
-    }))
+        device: String::from_str(alloc, device)?,
+        ends: ends_of(alloc, words)?,
+    })
 }
 
-/// The stream that `clap` found.
-fn stream_in(
+/// Reads the words of a line that is taken as a stream. Each number is the decimal that was typed, and in its range. The path of a file that ends it
+/// is what was typed for it.
+pub fn asked_stream(
     alloc: Global,
     words: &[String],
-    matches: &ArgMatches,
-) -> Result<StreamAsked, CommandFault>
-    ensures range { IfOk result IsStreamInRange }
-    ensures typed { IfOk result (WasStreamTyped words.now) }
-    ensures refused { IfErr result (IsMatchRefused words.now) }
+    places: &[&str],
+) -> Result<StreamRun, CommandFault>
+    requires { IsTakenAs words.now of.Stream (map (λ place. place.now) places.now) }
+    ensures range { IfOk result (λ run. IsStreamRun run × AreEnds run.ends) }
+    ensures typed { IfOk result (IsTypedStream words.now) }
+    ensures places { IfOk result (HasStreamPlaces words.now) }
+    ensures stream { OnOk result (has_word (codes "--stream") words.now ≡ true) }
+    ensures refused { IfErr result (IsStreamRefused words.now (map (λ place. place.now) places.now)) }
 {
-    match matches.subcommand() {
-        Some((_, found)) => run_of(alloc, words, found),
-        None => Err(CommandFault::Arg(ArgFault::Missing)),
+    if !has_word(words, "--stream") {
+        return Err(CommandFault::Arg(ArgFault::Missing));
     }
-}
-
-/// Reads the words of a command line with `--stream`, the program's name first. Each number is the decimal that was typed, and in its range. The path
-/// of a file that ends it is what was typed for it, and the device is one of the words.
-pub fn read_stream_args(alloc: Global, words: &[String]) -> Result<StreamAsked, CommandFault>
-    ensures few { OnOk result (length words.now ≤ MAX_WORDS) }
-    ensures range { IfOk result IsStreamInRange }
-    ensures typed { IfOk result (WasStreamTyped words.now) }
-    ensures refused { IfErr result (IsStreamRefused words.now) }
-{
-    match parse(alloc, words, STREAM_COMMANDS)? {
-        Parsed::Help(text) => Ok(StreamAsked::Help(text)),
-        Parsed::Found(matches) => stream_in(alloc, words, &matches),
+    match only(places) {
+        Some(device) => run_of(alloc, words, device),
+        None => Err(CommandFault::Arg(ArgFault::Missing)),
     }
 }

@@ -3,12 +3,11 @@
 ghost use Rattle.std.specs.Prelude.{◌≡◌, ◌≢◌, ◌⊎◌, ◌++◌, ◌∷◌, ◌<◌, ◌==◌, ◌^◌, All, Any, Some, if◌then◌else◌, nat_lt, IfErr, IfOk, IfSome, None, codes, count_by, length, map};
 ghost use Rattle.tp_words.specs.Lower.{decimal, MAX_PORTS, standard_port};
 ghost use Rattle.tp_words.specs.Ends.{AreEnds, AreSound, IsFaultOf, IsFile, IsFirstFault, IsHave, IsNoFile, IsNoHave, IsNoPort, IsPort, IsRefused, IsTextFault, WereTyped, fault_at, file_text, have_text, id_of, reader_fault, standard_count};
-ghost use Rattle.tp_words.specs.Given.{all_given, found_texts};
+ghost use Rattle.tp_words.specs.Given.{all_given};
 ghost use Rattle.tp_words.specs.Standard.{AreStandard};
-ghost use Rattle.tp_words.specs.declared.stream_ends.EndsFault.TheVariants.{File, Have, Discard, Missing, Memory};
+ghost use Rattle.tp_words.specs.declared.stream_ends.EndsFault.TheVariants.{File, Have, Discard, Memory};
 
-use crate::numbers::{are_given, number_of};
-use clap::ArgMatches;
+use crate::numbers::{after_first, all_given_in, number_of};
 use std::alloc::{AllocError, AllocFailed, Global};
 use std::fmt;
 use tp_model::limits::MAX_PORTS;
@@ -54,8 +53,6 @@ pub enum EndsFault {
     TwoStandard(FileOption),
     /// `--have` is for a port whose output doesn't go to standard output, or is there twice.
     NoReader(u8),
-    /// `clap` found other values than those that were typed.
-    Missing,
     Memory,
 }
 
@@ -98,7 +95,6 @@ impl fmt::Display for EndsFault {
                 f,
                 "tpnet: --have {port} goes with --out {port}=-, once: a file's reader needs none\n"
             ),
-            EndsFault::Missing => f.write_str("tpnet: a word is missing; see tpnet --help\n"),
             EndsFault::Memory => f.write_str("tpnet: Memory\n"),
         }
     }
@@ -162,30 +158,13 @@ fn pair_of<'a>(alloc: Global, text: &'a str) -> Result<Option<(u8, &'a str)>, Al
     Ok(Some((port, parts.1)))
 }
 
-/// What `clap` found for an option that may be there several times.
-fn found_for<'m, 'a>(found: &'m ArgMatches<'a>, id: &str) -> &'m [&'a str]
-    ensures { map (λ text. text.now) result.now ≡ found_texts found.now id.now }
-{
-    found.get_strs(id).unwrap_or_default()
-}
-
-/// All that was typed for an option, by the words themselves, in order. `clap` has to have found that too.
-fn texts_of<'m, 'a>(
-    alloc: Global,
-    words: &[String],
-    found: &'m ArgMatches<'a>,
-    id: &str,
-) -> Result<&'m [&'a str], EndsFault>
-    ensures typed { IfOk result (λ texts. map (λ text. text.now) texts.now ≡ all_given id.now words.now) }
-    ensures refused { IfErr result (λ fault. (fault ≡ Memory) ⊎ ((fault ≡ Missing) × (found_texts found.now id.now ≢ all_given id.now words.now))) }
+/// All that was typed for an option, in order.
+fn texts_of<'a>(alloc: Global, words: &'a [String], id: &str) -> Result<Vec<&'a str>, AllocError>
+    ensures { IfOk result (λ texts. map (λ text. text.now) texts.items ≡ all_given id.now words.now) }
 {
     let name = format!(in alloc; "--{id}")?;
     let ending = format!(in alloc; "--{id}=")?;
-    let texts = found_for(found, id);
-    if are_given(words, texts, name.as_str(), ending.as_str()) {
-        return Ok(texts);
-    }
-    Err(EndsFault::Missing)
+    all_given_in(alloc, after_first(words), name.as_str(), ending.as_str())
 }
 
 /// The end that was typed so for an option.
@@ -218,14 +197,13 @@ fn files_in(alloc: Global, texts: &[&str], option: FileOption) -> Result<Vec<Por
 pub(crate) fn files_of(
     alloc: Global,
     words: &[String],
-    found: &ArgMatches,
     option: FileOption,
 ) -> Result<Vec<PortFile>, EndsFault>
     ensures files { IfOk result (λ files. All IsFile files.items) }
     ensures typed { IfOk result (λ files. map file_text files.items ≡ all_given (id_of option) words.now) }
-    ensures refused { IfErr result (IsTextFault IsNoFile (File option) (found_texts found.now (id_of option)) (all_given (id_of option) words.now)) }
+    ensures refused { IfErr result (IsTextFault IsNoFile (File option) (all_given (id_of option) words.now)) }
 {
-    files_in(alloc, texts_of(alloc, words, found, option.id())?, option)
+    files_in(alloc, &texts_of(alloc, words, option.id())?, option)
 }
 
 /// What a reader has of its port, as it was typed.
@@ -260,16 +238,12 @@ fn haves_in(alloc: Global, texts: &[&str]) -> Result<Vec<PortNumber>, EndsFault>
 }
 
 /// Up to where readers have what they were given.
-fn haves_of(
-    alloc: Global,
-    words: &[String],
-    found: &ArgMatches,
-) -> Result<Vec<PortNumber>, EndsFault>
+fn haves_of(alloc: Global, words: &[String]) -> Result<Vec<PortNumber>, EndsFault>
     ensures haves { IfOk result (λ haves. All IsHave haves.items) }
     ensures typed { IfOk result (λ haves. map have_text haves.items ≡ all_given (codes "have") words.now) }
-    ensures refused { IfErr result (IsTextFault IsNoHave Have (found_texts found.now (codes "have")) (all_given (codes "have") words.now)) }
+    ensures refused { IfErr result (IsTextFault IsNoHave Have (all_given (codes "have") words.now)) }
 {
-    haves_in(alloc, texts_of(alloc, words, found, "have")?)
+    haves_in(alloc, &texts_of(alloc, words, "have")?)
 }
 
 /// The port that was typed so for `--discard`.
@@ -298,12 +272,12 @@ fn discards_in(alloc: Global, texts: &[&str]) -> Result<Vec<u8>, EndsFault>
 }
 
 /// The ports whose output is dropped.
-fn discards_of(alloc: Global, words: &[String], found: &ArgMatches) -> Result<Vec<u8>, EndsFault>
+fn discards_of(alloc: Global, words: &[String]) -> Result<Vec<u8>, EndsFault>
     ensures ports { IfOk result (λ ports. All IsPort ports.items) }
     ensures typed { IfOk result (λ ports. map decimal ports.items ≡ all_given (codes "discard") words.now) }
-    ensures refused { IfErr result (IsTextFault IsNoPort Discard (found_texts found.now (codes "discard")) (all_given (codes "discard") words.now)) }
+    ensures refused { IfErr result (IsTextFault IsNoPort Discard (all_given (codes "discard") words.now)) }
 {
-    discards_in(alloc, texts_of(alloc, words, found, "discard")?)
+    discards_in(alloc, &texts_of(alloc, words, "discard")?)
 }
 
 /// How many of the files are for a port.
@@ -401,17 +375,17 @@ fn fault_of(ends: &Ends) -> Option<EndsFault>
 }
 
 /// The ends of ports that were typed.
-pub fn ends_of(alloc: Global, words: &[String], found: &ArgMatches) -> Result<Ends, EndsFault>
+pub fn ends_of(alloc: Global, words: &[String]) -> Result<Ends, EndsFault>
     ensures ends { IfOk result AreEnds }
     ensures typed { IfOk result (WereTyped words.now) }
     ensures standard { IfOk result (AreStandard words.now) }
-    ensures refused { IfErr result (IsRefused found.now words.now) }
+    ensures refused { IfErr result (IsRefused words.now) }
 {
     let ends = Ends {
-        outs: files_of(alloc, words, found, FileOption::Out)?,
-        haves: haves_of(alloc, words, found)?,
-        discards: discards_of(alloc, words, found)?,
-        ins: files_of(alloc, words, found, FileOption::In)?,
+        outs: files_of(alloc, words, FileOption::Out)?,
+        haves: haves_of(alloc, words)?,
+        discards: discards_of(alloc, words)?,
+        ins: files_of(alloc, words, FileOption::In)?,
     };
     match fault_of(&ends) {
         Some(fault) => Err(fault),

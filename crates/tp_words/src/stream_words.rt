@@ -1,6 +1,8 @@
 //! The words that `clap` takes with `run --stream`.
 
 use crate::forms::{EXPLAIN, NO_EXPLAIN, WAIT_LOCK, WRITTEN};
+use crate::numbers::after_first;
+use crate::rules::is_used;
 use crate::words::{Form, Word};
 
 /// What `tpnet run --stream` refuses.
@@ -50,25 +52,6 @@ const STREAM_OPTIONS: &[&str] = &[
     "progress-every",
 ];
 
-/// Whether a word is the option of this name, with a value after an equals sign or without.
-fn is_option(word: &str, id: &str) -> bool {
-    let name = match word.split_once('=') {
-        Some((name, _)) => name,
-        None => word,
-    };
-    name.strip_prefix("--") == Some(id)
-}
-
-/// Whether one of the words is the option of this name.
-fn has_option(words: &[String], id: &str) -> bool {
-    for word in words {
-        if is_option(word.as_str(), id) {
-            return true;
-        }
-    }
-    false
-}
-
 /// Whether the words are those of `run`.
 pub fn are_of_run(words: &[String]) -> bool {
     match words.get(1) {
@@ -83,7 +66,7 @@ pub fn stream_option(words: &[String]) -> Option<&'static str> {
         return None;
     }
     for id in STREAM_OPTIONS {
-        if has_option(words, id) {
+        if is_used(id, after_first(words)) {
             return Some(*id);
         }
     }

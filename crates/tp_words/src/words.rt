@@ -1,4 +1,7 @@
-//! The words that `clap` takes.
+//! The words of each command, and what `clap` says of them.
+
+ghost use Rattle.std.specs.Prelude.{◌≡◌, map};
+ghost use Rattle.tp_words.specs.Rows.{command_text, row_of, rows_of};
 
 use crate::forms::{
     BACKUP, CHECK, COMPACT, FORMAT, IMAGE, JOURNAL, NODES, PORT, RECOVER, RUN, SHOW, STATUS, STOP,
@@ -22,14 +25,14 @@ const VERSION: &str =
 pub enum Word {
     /// A word that has to be there.
     Place(&'static str, &'static str),
-    /// A word that may be there, but not beside the option of the second name.
-    Instead(&'static str, &'static str, &'static str),
+    /// A last word that may be there, but not beside the options of these names.
+    Instead(&'static str, &'static [&'static str], &'static str),
     /// An option without a value.
     Flag(&'static str, &'static str),
     /// An option without a value that has to be there.
     Mark(&'static str, &'static str),
-    /// An option without a value that may not be there beside the option of the second name.
-    Unless(&'static str, &'static str, &'static str),
+    /// An option without a value that may not be there beside the options of these names.
+    Unless(&'static str, &'static [&'static str], &'static str),
     /// An option with a value.
     Value(&'static str, &'static str, &'static str),
     /// An option with a value that has to be there.
@@ -91,11 +94,14 @@ pub const COMMANDS: &[Name] = &[
     Name::Port,
 ];
 
-/// `run` with `--stream`, which is read apart from the others.
+/// `run` with `--stream`, of which `clap` tells apart from the others.
 pub const STREAM_COMMANDS: &[Name] = &[Name::Stream];
 
 /// The command of that name.
-fn form_of(name: Name) -> Form {
+pub fn form_of(name: Name) -> Form
+    ensures name { result.name.now ≡ command_text name }
+    ensures rows { map row_of result.words.now ≡ rows_of name }
+{
     match name {
         Name::Try => TRY,
         Name::Trace => TRACE,
@@ -162,15 +168,15 @@ fn arg_of<'a>(alloc: Global, word: &Word) -> Result<Arg<'a>, AllocError> {
                 .action(ArgAction::Set)
                 .help(help),
         ),
-        Word::Instead(id, other, help) => {
+        Word::Instead(id, others, help) => {
             Arg::new(alloc, id)
                 .action(ArgAction::Set)
                 .help(help)
-                .conflicts_with(other)
+                .conflicts_with_all(others)
         }
         Word::Flag(id, help) => Ok(flag(alloc, id, help)),
         Word::Mark(id, help) => Ok(flag(alloc, id, help).required(true)),
-        Word::Unless(id, other, help) => flag(alloc, id, help).conflicts_with(other),
+        Word::Unless(id, others, help) => flag(alloc, id, help).conflicts_with_all(others),
         Word::Value(id, value, help) => Ok(option(alloc, id, value, help)),
         Word::Needed(id, value, help) => Ok(option(alloc, id, value, help).required(true)),
         Word::Alone(id, value, others, help) => {
@@ -211,7 +217,7 @@ fn program<'a>(alloc: Global) -> Result<Command<'a>, AllocError> {
         .bin_name("tpnet")
 }
 
-/// The words that the program takes for commands of these names.
+/// The words that `clap` takes for commands of these names.
 pub fn command<'a>(alloc: Global, names: &[Name]) -> Result<Command<'a>, AllocError> {
     let mut command = program(alloc)?.version(VERSION).about(
         "A network of transputers whose computations survive any crash",

@@ -13,7 +13,7 @@ returns-in_default-2-clause-refused c =
     let option : NumberOption = record { id = c.args.id.now; least = c.args.least; most = c.args.most } in
     let text = c.in-Some.text.now in
     let typed : given c.args.id.now words ≡ Some text =
-    sym c.in_ok-text.ensures.typed ∙ ap (λ (o : Option (Bor (List ℕ))). option_map (λ (t : Bor (List ℕ)). t.now) o) c.in-Some.is in
+    sym c.in_ok-text.ensures ∙ ap (λ (o : Option (Bor (List ℕ))). option_map (λ (t : Bor (List ℕ)). t.now) o) c.in-Some.is in
     let low : c.args.most < 2 ^ 64 = omega arith in (
       refl,
       elim c.in_default-2.branch [

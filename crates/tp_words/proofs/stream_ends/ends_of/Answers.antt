@@ -1,4 +1,4 @@
-use Rattle.std.proofs.Common.{arith, refl, codes}
+use Rattle.std.proofs.Common.{codes}
 use Rattle.tp_words.specs.Ends.{IsNoFile, IsNoHave, IsNoPort, IsRefused}
 use Rattle.tp_words.specs.declared.stream_ends.EndsFault.{EndsFault}
 use Rattle.tp_words.specs.declared.stream_ends.EndsFault.TheVariants.{File, Have, Discard}
@@ -12,35 +12,32 @@ use Rattle.tp_words.proofs.stream_ends.ends_of.Goals as goal
 
 pub returns-in_err-haves_of-clause-refused : goal.returns-in_err-haves_of-clause-refused
 returns-in_err-haves_of-clause-refused c =
-    let found = c.args.found.now in
     let words = c.args.words.now in
     let fault = c.in_err-haves_of.field-0.0 in
     let outs = c.in_ok-files_of in
-    on_told c.from_residual-in_err-haves_of.result fault (λ (fault : EndsFault). IsRefused found words fault) c.from_residual-in_err-haves_of.ensures.1
-    (told found words IsNoHave Have _ _ fault c.in_err-haves_of.ensures.refused (λ other. (1, codes "have", omega arith, refl, other))
+    on_told c.from_residual-in_err-haves_of.result fault (λ (fault : EndsFault). IsRefused words fault) c.from_residual-in_err-haves_of.ensures.1
+    (told words IsNoHave Have _ fault c.in_err-haves_of.ensures.refused
     (λ any. ((outs.field-0.items, outs.ensures.files, outs.ensures.typed), any)))
 
 pub returns-in_err-discards_of-clause-refused : goal.returns-in_err-discards_of-clause-refused
 returns-in_err-discards_of-clause-refused c =
-    let found = c.args.found.now in
     let words = c.args.words.now in
     let fault = c.in_err-discards_of.field-0.0 in
     let outs = c.in_ok-files_of in
     let haves = c.in_ok-haves_of in
-    on_told c.from_residual-in_err-discards_of.result fault (λ (fault : EndsFault). IsRefused found words fault) c.from_residual-in_err-discards_of.ensures.1
-    (told found words IsNoPort Discard _ _ fault c.in_err-discards_of.ensures.refused (λ other. (2, codes "discard", omega arith, refl, other))
+    on_told c.from_residual-in_err-discards_of.result fault (λ (fault : EndsFault). IsRefused words fault) c.from_residual-in_err-discards_of.ensures.1
+    (told words IsNoPort Discard _ fault c.in_err-discards_of.ensures.refused
     (λ any. ((outs.field-0.items, outs.ensures.files, outs.ensures.typed), (haves.field-0.items, haves.ensures.haves, haves.ensures.typed), any)))
 
 pub returns-in_err-files_of-2-clause-refused : goal.returns-in_err-files_of-2-clause-refused
 returns-in_err-files_of-2-clause-refused c =
-    let found = c.args.found.now in
     let words = c.args.words.now in
     let fault = c.in_err-files_of-2.field-0.0 in
     let outs = c.in_ok-files_of in
     let haves = c.in_ok-haves_of in
     let ports = c.in_ok-discards_of in
-    on_told c.from_residual-in_err-files_of-2.result fault (λ (fault : EndsFault). IsRefused found words fault) c.from_residual-in_err-files_of-2.ensures.1
-    (told found words IsNoFile (File In) _ _ fault c.in_err-files_of-2.ensures.refused (λ other. (3, codes "in", omega arith, refl, other))
+    on_told c.from_residual-in_err-files_of-2.result fault (λ (fault : EndsFault). IsRefused words fault) c.from_residual-in_err-files_of-2.ensures.1
+    (told words IsNoFile (File In) _ fault c.in_err-files_of-2.ensures.refused
     (λ any. (
       (outs.field-0.items, outs.ensures.files, outs.ensures.typed),
       (haves.field-0.items, haves.ensures.haves, haves.ensures.typed),
@@ -50,7 +47,7 @@ returns-in_err-files_of-2-clause-refused c =
 
 pub returns-in-Some-clause-refused : goal.returns-in-Some-clause-refused
 returns-in-Some-clause-refused c =
-    of_ends c.args.found.now c.args.words.now
+    of_ends c.args.words.now
     (record { outs = c.in_ok-files_of.field-0; haves = c.in_ok-haves_of.field-0; discards = c.in_ok-discards_of.field-0; ins = c.in_ok-files_of-2.field-0 })
     c.in-Some.fault
     (record {

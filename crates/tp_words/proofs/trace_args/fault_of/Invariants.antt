@@ -1,5 +1,5 @@
 -- nothing is wrong with the files so far
-use Rattle.std.proofs.Common.{◌≡◌, ◌<◌, ℕ, All, get_or, length, take}
+use Rattle.std.proofs.Common.{All, take}
 use Rattle.tp_stream_files.specs.declared.ends.PortFile.{PortFile}
 use Rattle.tp_words.specs.TraceArgs.{IsOfLink}
 use Rattle.tp_words.proofs.trace_args.fault_of.Given as goal
