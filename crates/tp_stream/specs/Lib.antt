@@ -10,8 +10,10 @@ pub mod Over
 pub mod Put
 pub mod Quiet
 pub mod Rooms
+pub mod Rounds
 pub mod Served
 pub mod Standing
 pub mod Steps
 pub mod Streamed
+pub mod Teams
 pub mod Told

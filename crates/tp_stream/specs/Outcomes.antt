@@ -1,6 +1,6 @@
 -- What the steps and turns of a stream come to.
-use Rattle.std.specs.Prelude.{◌≡◌, ◌⊎◌, ℕ, Bool, true, false, Option, Some, None, Result, Ok, Err, nat_eq, if◌then◌else◌}
-use Rattle.tp_stream.specs.Lower.{Standing, NodeHalted, NodeWaits, Free, Ending, Waits, SinkFault, Failed, Refusal}
+use Rattle.std.specs.Prelude.{◌≡◌, ◌⊎◌, ◌<◌, ℕ, Bool, true, false, Option, Some, None, Result, Ok, Err, nat_eq, if◌then◌else◌}
+use Rattle.tp_stream.specs.Lower.{BookValue, after_confirm, shown_upto_of, Standing, NodeHalted, NodeWaits, Free, Ending, Waits, SinkFault, Failed, OutputValue, Refusal}
 use Rattle.tp_stream_files.specs.declared.ending.Stopped.{Stopped}
 use Rattle.tp_stream_files.specs.declared.ending.Stopped.TheVariants.{Halted}
 use Rattle.tp_stream_files.specs.declared.sink.SinkFault.TheVariants.{Gone}
@@ -97,6 +97,19 @@ abbrev pub AreTakersThere : Pumped → Type 0
 AreTakersThere Nothing = Unit {0}
 AreTakersThere Moved = Unit {0}
 AreTakersThere GoneThere = ⊥
+
+-- An output was put up to where a mark shows its port in a book, and all of that is confirmed in the book then.
+pub record IsPutWhole (mark : ℕ) (b later : BookValue) (old new : OutputValue) : Type 0 where
+  pub put : new.next ≡ shown_upto_of b old.port mark
+  pub confirmed : new.confirmed ≡ new.next
+  pub book : later ≡ after_confirm b old.port new.next
+
+-- What a step of an output came to. If whoever takes it has gone, it counts as not put any further, and nothing is confirmed. Else all that the mark
+-- shows is put and confirmed; the output has moved exactly if some of that wasn't put before.
+abbrev pub StepCameTo : ℕ → BookValue → BookValue → OutputValue → OutputValue → Pumped → Type 0
+StepCameTo mark b later old new Nothing = IsPutWhole mark b later old new × (new.next ≡ old.next)
+StepCameTo mark b later old new Moved = IsPutWhole mark b later old new × (old.next < new.next)
+StepCameTo mark b later old new GoneThere = (later ≡ b) × (new.next ≡ old.next) × (new.confirmed ≡ old.confirmed)
 
 -- what some steps and those after them come to together
 abbrev pub pumped_then : Pumped → Pumped → Pumped

@@ -1,12 +1,13 @@
 //! Steps of a port's output: it is put at its position, made safe, and then confirmed.
 
-ghost use Rattle.std.specs.Prelude.{◌≡◌, ◌<◌, ◌≤◌, ◌+◌, ℕ, false, length, IfOk, OnOk, IfErr, OnErr};
+ghost use Rattle.std.specs.Prelude.{◌≡◌, ◌<◌, ◌≤◌, ◌+◌, ℕ, false, length, Err, IfOk, OnOk, IfErr, OnErr};
 ghost use Rattle.tp_stream.specs.Lower.{after_confirm, port_in, shown_from, shown_upto_of, confirm_entries, is_journal_full, HoldNoted, IsFor, HasPut, KeepsFront, WasPutSafely, given_of};
 ghost use Rattle.tp_stream.specs.FailedEnds.{NamesOutput, StepNames};
 ghost use Rattle.tp_stream.specs.Standing.{MayBegin, Refuses, from_of, put_out, port_standing};
 ghost use Rattle.tp_stream.specs.Streamed.{CameBetween, OtherThanFull};
 ghost use Rattle.tp_stream.specs.Outcomes.{ConfirmsOtherwise, IsStepFault, StepsOtherwise, confirm_fault_of, step_fault_of};
 ghost use Rattle.tp_stream.specs.Steps.{AreLeft, IsSetOut, PutsShown};
+ghost use Rattle.tp_stream.specs.declared.output.StepFault.TheVariants.{Gone as TakerGone};
 
 use crate::fault::StreamFault;
 use crate::standing::Standing;
@@ -188,6 +189,7 @@ pub(crate) fn step<J: Naming, D: Disk, S: Sink>(
     ensures noted { IfOk result (λ receipt. HoldNoted (λ entries. entries ≡ confirm_entries held.old.book output.old.port output.new.next) J.first held.old held.new seat.old seat.new) }
     ensures confirmed { OnOk result (output.new.confirmed ≡ output.new.next) }
     ensures failed { OnErr result ((held.new ≡ held.old) × (seat.new ≡ seat.old)) }
+    ensures gone { result ≡ Err TakerGone → output.new ≡ record output.old { held = output.new.held } }
     ensures front { KeepsFront output.old.next output.old.held output.new.held }
     ensures puts { PutsShown held.old.book flusher.now.world.mark output.old output.new }
     ensures left { AreLeft held.old.book held.new.book }

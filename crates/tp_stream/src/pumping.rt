@@ -4,7 +4,7 @@ ghost use Rattle.std.specs.Prelude.{◌≡◌, ◌<◌, ◌==◌, ◌-◌, ℕ, 
 ghost use Rattle.tp_stream.specs.Lower.{JournalRoom, accepted_of, port_in, room_of, is_journal_full, Began, OutputValue};
 ghost use Rattle.tp_stream.specs.FailedEnds.{NamesEnd, NamesInput, NamesOutput};
 ghost use Rattle.tp_stream.specs.Offered.{Offered};
-ghost use Rattle.tp_stream.specs.Outcomes.{AreTakersThere, pumped_then};
+ghost use Rattle.tp_stream.specs.Outcomes.{AreTakersThere, StepCameTo, pumped_then};
 ghost use Rattle.tp_stream.specs.Put.{EachWith};
 ghost use Rattle.tp_stream.specs.Rooms.{IsConfirmed, UnreservedBook, free_of, has_room_for};
 ghost use Rattle.tp_stream.specs.Steps.{AllStepped, AreLeft, PutsLeft, PutsShown};
@@ -89,6 +89,8 @@ fn step_output<J: Naming, D: Disk, S: Sink>(
     ensures names { IfErr result (NamesOutput output.new.port) }
     ensures book { IsConfirmed held.old.book held.new.book }
     ensures room { is_journal_full held.old.book 1 ≡ false → IfErr result OtherThanFull }
+    ensures came { IfOk result (StepCameTo flusher.now.world.mark held.old.book held.new.book output.old output.new) }
+    ensures failed { OnErr result ((held.new ≡ held.old) × (seat.new ≡ seat.old)) }
 {
     let before = output.put();
     if usize::from(output.port()) >= held.book().ports() {

@@ -1,10 +1,11 @@
 //! Rounds: turns of all processes of the network, one after the other.
 
-ghost use Rattle.std.specs.Prelude.{◌≡◌, ◌↔◌, ◌<◌, ◌≤◌, length, true, false, Ok, IfOk, IfErr, OnOk, ◌⊎◌, ◌+◌, ◌-◌, ◌*◌};
+ghost use Rattle.std.specs.Prelude.{◌≡◌, ◌↔◌, ◌<◌, ◌≤◌, length, min, true, false, Ok, IfOk, IfErr, OnOk, OnErr, ◌⊎◌, ◌+◌, ◌-◌, ◌*◌, ◌^◌};
 ghost use Rattle.tp_stream.specs.Lower.{MAX_STEPS, after_begin, is_due};
 ghost use Rattle.tp_stream.specs.Outcomes.{turn_fault_of};
 ghost use Rattle.tp_stream.specs.Quiet.{HadNothing, HasNoStep, HaveRested, HostRests, IsStill, NodeRests};
 ghost use Rattle.tp_stream.specs.Rooms.{HavePlace, StaysAhead, has_room_for};
+ghost use Rattle.tp_stream.specs.Rounds.{MadeRound, round_of};
 ghost use Rattle.tp_stream.specs.Streamed.{CameOfTurns};
 ghost use Rattle.tp_stream.specs.declared.rounds.TheConstants.{AHEAD};
 
@@ -228,6 +229,9 @@ fn one_turn<J: Naming, R: Wait>(
     requires still { seen.is_running ≡ false → IsStill J.start }
     requires room { seen.has_room ≡ true }
     ensures rested { OnOk result (HaveRested J.start turns.new.whose turns.new.idle) }
+    ensures made { OnOk result (turns.new.made ≡ min (turns.old.made + 1) (2 ^ 64 - 1)) }
+    ensures busy { turns.new.is_busy ≡ turns.old.is_busy }
+    ensures err { OnErr result (turns.new ≡ turns.old) }
     ensures begun { IfErr result CameOfTurns }
 {
     let nodes = shared.nodes();
@@ -247,7 +251,9 @@ fn one_turn<J: Naming, R: Wait>(
 }
 
 /// How many turns a round has at most: one for each process if workers make more after it, else [`ROUND`].
-fn turns_of(turns: &Turns, nodes: u8) -> u32 {
+fn turns_of(turns: &Turns, nodes: u8) -> u32
+    ensures { result ≡ round_of turns.now.is_busy nodes }
+{
     if turns.is_busy {
         u32::from(nodes) + 1
     } else {
@@ -275,6 +281,7 @@ pub(crate) fn round<J: Naming, R: Wait>(
 ) -> Result<(), StreamFault>
     requires { turns.old.whose ≤ length J.start.nodes }
     ensures rested { OnOk result (HaveRested J.start turns.new.whose turns.new.idle) }
+    ensures made { MadeRound (length J.start.nodes) turns.old turns.new }
     ensures begun { IfErr result CameOfTurns }
 {
     let nodes = shared.nodes();

@@ -1,6 +1,6 @@
 //! What a stream does with a network and its flusher.
 
-ghost use Rattle.std.specs.Prelude.{map, ◌≡◌, ℕ, ◌≤◌, List, length, All, Some, IfOk, IfSome, IfErr, OnOk};
+ghost use Rattle.std.specs.Prelude.{map, ◌≡◌, ℕ, ◌≤◌, List, length, vec_len, All, Some, IfOk, IfSome, IfErr, OnOk};
 ghost use Rattle.tp_stream.specs.Lower.{list_all, OutputValue, Began, is_over};
 ghost use Rattle.tp_stream.specs.FailedEnds.{NamesEnd};
 ghost use Rattle.tp_stream.specs.Failures.{answer_failed};
@@ -8,9 +8,11 @@ ghost use Rattle.tp_stream.specs.Looks.{HaveLooked, LooksAtMostOnce, LooksOnce};
 ghost use Rattle.tp_stream.specs.Over.{LeavesNoInput};
 ghost use Rattle.tp_stream.specs.Put.{EndsPut};
 ghost use Rattle.tp_stream.specs.Quiet.{HaveRested, IsWhyEnded};
+ghost use Rattle.tp_stream.specs.Rounds.{MadeRound};
 ghost use Rattle.tp_stream.specs.Served.{ServedAnswer, ServedOn};
 ghost use Rattle.tp_stream.specs.Steps.{AllStepped};
 ghost use Rattle.tp_stream.specs.Streamed.{CameBegun, CameBetween, CameOfTurns};
+ghost use Rattle.tp_stream.specs.Teams.{team_of};
 ghost use Rattle.tp_stream.specs.Told.{TellsProgress, ToldLater};
 
 use crate::beside::go_beside;
@@ -143,6 +145,7 @@ fn make_turns<J: Naming, R: Wait>(
 ) -> Result<(), StreamFault>
     requires { HaveRested J.start going.old.turns.whose going.old.turns.idle }
     ensures rested { OnOk result (HaveRested J.start going.new.turns.whose going.new.turns.idle) }
+    ensures made { MadeRound (length J.start.nodes) going.old.turns going.new.turns }
     ensures begun { IfErr result CameOfTurns }
 {
     let Ground {
@@ -178,6 +181,7 @@ fn rest_or_turn<J: Naming, I: Source, R: Wait>(
 ) -> Result<(), StreamFault>
     requires { HaveRested J.start going.old.turns.whose going.old.turns.idle }
     ensures rested { OnOk result (HaveRested J.start going.new.turns.whose going.new.turns.idle) }
+    ensures made { MadeRound (length J.start.nodes) going.old.turns going.new.turns }
     ensures begun { IfErr result CameBetween }
     ensures ends { (outputs : List OutputValue) → IfErr result (NamesEnd outputs (map (λ i. i.port) inputs.new)) }
 {
@@ -208,6 +212,7 @@ fn go_on<J: Naming, D: Disk, S: Sink, I: Source, P: Stop, R: Wait>(
     ensures looks { IfOk result (LooksOnce ground.entry.pace.task going.old.turns.made going.new.turns.made (P.answers stop.old) (P.answers stop.new)) }
     ensures over { IfOk result (λ ended. IfSome ended (λ why. going.new ≡ record going.old { steps = going.new.steps })) }
     ensures rested { OnOk result (HaveRested J.start going.new.turns.whose going.new.turns.idle) }
+    ensures made { MadeRound (length J.start.nodes) going.old.turns going.new.turns }
     ensures begun { IfErr result CameBetween }
     ensures ends { IfErr result (NamesEnd streams.new.outputs.items (map (λ i. i.port) streams.new.inputs.items)) }
 {
@@ -266,6 +271,7 @@ fn cycle<J: Naming, D: Disk, S: Sink, I: Source, L: Listener, P: Stop, R: Wait>(
     ensures progress { OnOk result (TellsProgress ground.entry.pace.task.tells ground.entry.pace.rooms.journal flusher.new going.old.turns.made streams.old.outputs.items (L.told listener.old) (L.told listener.new)) }
     ensures over { IfOk result (λ ended. IfSome ended (λ why. going.new ≡ record going.old { steps = going.new.steps })) }
     ensures rested { OnOk result (HaveRested J.start going.new.turns.whose going.new.turns.idle) }
+    ensures made { MadeRound (length J.start.nodes) going.old.turns going.new.turns }
     ensures ends { IfErr result (NamesEnd streams.new.outputs.items (map (λ i. i.port) streams.new.inputs.items)) }
 {
     let Ground {
@@ -350,8 +356,8 @@ pub(crate) fn laps<J: Naming, D: Disk, S: Sink, I: Source, L: Listener, P: Stop,
     last
 }
 
-/// Makes turns and steps until the stream is over. Answers the number that the next entry gets, and why it is over; all entries below that number are
-/// stored. Before that it tells the listener which nodes have stopped.
+/// Makes turns and steps until the stream is over, with a worker at each seat. Answers the number that the next entry gets, and why it is over; all
+/// entries below that number are stored. Before that it tells the listener which nodes have stopped.
 #[inline(never)]
 pub(crate) fn serve<
     J: Naming + Send + Sync,
@@ -372,6 +378,7 @@ pub(crate) fn serve<
 ) -> Result<Ended, StreamFault>
     requires rested { HaveRested J.start going.turns.whose going.turns.idle }
     requires seats { All (λ seat. seat.hand.of ≡ Some ground.net.now.queue) seats.items }
+    requires team { (ground.pace.workers ≡ team_of ground.pace.task.workers (length J.start.nodes)) × (vec_len seats ≡ ground.pace.workers) }
     ensures served { ServedOn D.keeps J.formatted J.before (answer_failed result) flusher.old flusher.new streams.old.outputs.items streams.new.outputs.items }
     ensures why { IfOk result (λ ended. IsWhyEnded J.start ground.entry.pace.task ended.why) }
     ensures inputs { IfOk result (λ ended. LeavesNoInput (list_all (λ i. is_over i.ended i.is_blocked) streams.new.inputs.items) ended.why) }

@@ -53,6 +53,7 @@ pub(crate) fn settle<J: Naming, R: Wait>(
     ensures whose { turns.new.whose ≡ turns.old.whose }
     ensures idle { OnOk result (turns.new.idle ≡ 0) }
     ensures made { turns.new.made ≡ turns.old.made }
+    ensures busy { turns.new.is_busy ≡ turns.old.is_busy }
     ensures begun { IfErr result CameOfTurns }
 {
     if !turns.may_settle() {

@@ -1,7 +1,7 @@
 //! A stream, from a device to a device.
 
-ghost use Rattle.std.specs.Prelude.{◌≡◌, ◌⊎◌, ◌++◌, ◌+◌, ◌<◌, ◌≤◌, max, false, true, Ok, Err, Some, length, map, OnOk, IfOk, IfErr, IsErr};
-ghost use Rattle.tp_stream.specs.Lower.{AllByRecursion, list_all, journal_of, place_at, Began, IsSynced, IsNodeOfBytes, is_roomy, room, t414_ends, OpenedValue, next_of, verdict, IsCut, node_count, MAX_STEPS, LeavesNothingNew, IsMadeOf, History, Names, given_input, is_over, given_of, Unopened, MAX_WORKERS};
+ghost use Rattle.std.specs.Prelude.{◌≡◌, ◌⊎◌, ◌++◌, ◌≤◌, false, true, Ok, Err, Some, length, map, OnOk, IfOk, IfErr, IsErr};
+ghost use Rattle.tp_stream.specs.Lower.{AllByRecursion, list_all, journal_of, place_at, Began, IsSynced, IsNodeOfBytes, is_roomy, room, t414_ends, OpenedValue, next_of, verdict, IsCut, node_count, MAX_STEPS, LeavesNothingNew, IsMadeOf, History, Names, given_input, is_over, given_of, Unopened};
 ghost use Rattle.tp_stream.specs.FailedEnds.{NamesEnd};
 ghost use Rattle.tp_stream.specs.Failures.{StreamAnswer, answer_failed, calls_failed};
 ghost use Rattle.tp_stream.specs.Fitting.{SaysFit};
@@ -12,6 +12,7 @@ ghost use Rattle.tp_stream.specs.Quiet.{IsAsked, LeavesNothingToDo};
 ghost use Rattle.tp_stream.specs.Rooms.{every_of, need_of};
 ghost use Rattle.tp_stream.specs.Standing.{AllHaveAccepted, AllMayBegin, IsFirstRefused, IsFirstShort, OfInput, OfOutput, accepted_opened, stands_opened};
 ghost use Rattle.tp_stream.specs.Streamed.{CameBegun, StaysUnstreamed, Streamed};
+ghost use Rattle.tp_stream.specs.Teams.{team_of};
 ghost use Rattle.tp_stream.specs.Told.{ToldFirst, ToldLater, input_begins, output_begins};
 
 use crate::beginning::task_fault;
@@ -41,10 +42,7 @@ use tp_work::{MAX_WORKERS, Net};
 
 /// How many workers make turns on a device of this topology: as many as the task asks for, at least one, and no more than there are processes.
 fn workers_of(task: Task, topology: &Topology) -> u8
-    ensures some { 0 < result }
-    ensures few { result ≤ MAX_WORKERS }
-    ensures asked { result ≤ max task.workers 1 }
-    ensures processes { result ≤ node_count topology.now + 1 }
+    ensures { result ≡ team_of task.workers (node_count topology.now) }
 {
     let processes = (topology.pages().len() as u8).saturating_add(1);
     task.workers.min(processes).min(MAX_WORKERS).max(1)
@@ -59,7 +57,7 @@ fn pace_of(task: Task, topology: &Topology, area: u64) -> Pace
     ensures every { result.every ≡ every_of (journal_of topology.now area) task.every }
     ensures need { result.need ≡ need_of topology.now.ports }
     ensures confirms { result.confirms ≡ topology.now.ports }
-    ensures workers { (0 < result.workers) × (result.workers ≤ MAX_WORKERS) }
+    ensures workers { result.workers ≡ team_of task.workers (node_count topology.now) }
 {
     let ports = topology.port_count() as u32;
     let rooms = Rooms::of(topology, area);

@@ -1,6 +1,6 @@
 //! How far turns have come.
 
-ghost use Rattle.std.specs.Prelude.{◌≡◌, ◌<◌, ◌≤◌, ◌+◌, ◌-◌, ◌/◌, ◌^◌, ◌&&◌, ◌||◌, not, true, false, nat_le, nat_lt, if◌then◌else◌};
+ghost use Rattle.std.specs.Prelude.{◌≡◌, ◌<◌, ◌≤◌, ◌+◌, ◌-◌, ◌/◌, ◌^◌, ◌&&◌, ◌||◌, min, not, true, false, nat_le, nat_lt, if◌then◌else◌};
 ghost use Rattle.tp_stream.specs.Endings.{IsBoundReached, is_bound_reached, is_done};
 ghost use Rattle.tp_stream.specs.declared.turns.TheConstants.{HEAVY, MOST_SETTLED};
 
@@ -87,6 +87,8 @@ impl Turns {
     pub(crate) fn begin(&mut self)
         ensures whose { self.new.whose ≡ self.old.whose }
         ensures idle { self.new.idle ≡ 0 }
+        ensures made { self.new.made ≡ self.old.made }
+        ensures busy { self.new.is_busy ≡ self.old.is_busy }
     {
         self.idle = 0;
         self.beside = 0;
@@ -100,6 +102,7 @@ impl Turns {
     pub(crate) fn end(&mut self, task: Task, nodes: u8, were_all: bool, may_be: bool)
         ensures whose { self.new.whose ≡ self.old.whose }
         ensures idle { self.new.idle ≡ self.old.idle }
+        ensures made { self.new.made ≡ self.old.made }
         ensures busy { self.new.is_busy ≡ (may_be && not (is_done task self.old nodes) && (if were_all then nat_le self.old.round (self.old.steps / HEAVY) else self.old.is_busy)) }
     {
         let more = may_be && !self.is_done(task, nodes);
@@ -111,6 +114,8 @@ impl Turns {
     pub(crate) fn fill(&mut self)
         ensures whose { self.new.whose ≡ self.old.whose }
         ensures idle { self.new.idle ≡ self.old.idle }
+        ensures made { self.new.made ≡ self.old.made }
+        ensures busy { self.new.is_busy ≡ self.old.is_busy }
     {
         self.is_full = true;
     }
@@ -120,6 +125,7 @@ impl Turns {
         ensures whose { self.new.whose ≡ self.old.whose }
         ensures idle { self.new.idle ≡ 0 }
         ensures made { self.new.made ≡ self.old.made }
+        ensures busy { self.new.is_busy ≡ self.old.is_busy }
         ensures full { self.new.is_full ≡ false }
         ensures settled { self.old.settled < MOST_SETTLED → self.new.settled ≡ self.old.settled + 1 }
     {
@@ -134,7 +140,8 @@ impl Turns {
         ensures whose { self.new.whose ≡ (if nat_lt self.old.whose nodes then self.old.whose + 1 else 0) }
         ensures rests { 0 < self.new.idle → (did.nothing ≡ true) × (is_running ≡ false) }
         ensures one { self.new.idle ≤ self.old.idle + 1 }
-        ensures made { self.old.made < 2 ^ 64 - 1 → self.new.made ≡ self.old.made + 1 }
+        ensures made { self.new.made ≡ min (self.old.made + 1) (2 ^ 64 - 1) }
+        ensures busy { self.new.is_busy ≡ self.old.is_busy }
         ensures halted { self.new.has_halted ≡ (self.old.has_halted || did.halted) }
         ensures settled { self.new.settled ≡ (if did.nothing then self.old.settled else 0) }
     {
@@ -182,6 +189,8 @@ impl Turns {
     pub(crate) fn moved(&mut self)
         ensures whose { self.new.whose ≡ self.old.whose }
         ensures idle { self.new.idle ≡ self.old.idle }
+        ensures made { self.new.made ≡ self.old.made }
+        ensures busy { self.new.is_busy ≡ self.old.is_busy }
         ensures settled { self.new.settled ≡ 0 }
     {
         self.settled = 0;

@@ -5,7 +5,9 @@ use Rattle.tp_stream.specs.Failures.{answer_failed, calls_failed}
 use Rattle.tp_stream.specs.Looks.{HaveLooked}
 use Rattle.tp_stream.specs.Put.{ServedInto}
 use Rattle.tp_stream.specs.Quiet.{IsWhyEnded, LeavesNothingToDo}
+use Rattle.tp_stream.specs.Teams.{team_of}
 use Rattle.tp_stream.specs.Told.{ToldLater}
+use Rattle.tp_stream.specs.declared.task.Task.{Task}
 use Rattle.tp_stream.proofs.Quiets.{all_asked, all_left}
 use Rattle.tp_stream.specs.declared.fault.StreamFault.TheVariants.{Memory}
 use Rattle.tp_stream.proofs.Failures.{uncounted}
@@ -70,6 +72,12 @@ returns-clause-failures g c =
 pub serve-done-requires-clause-seats : goal.serve-done-requires-clause-seats
 serve-done-requires-clause-seats g c κs within k d there =
     (c.in-Ok.ensures.seats k d there).0 ∙ ap Some (sym (c.seat-steps.ensures.same.1 ∙ c.seat-seat.ensures.same.1))
+
+pub serve-done-requires-clause-team : goal.serve-done-requires-clause-team
+serve-done-requires-clause-team g c κs within =
+    let pace = c.pace_of-pace.result in
+    let many = nodes_of c.args.device.opened.value c.args.device.parts.book g.J.Naming.start c.requires.stands.book c.requires.cut c.requires.names.count_is ∙ ap node_count (sym c.requires.topology) in
+    (c.pace_of-pace.ensures.workers ∙ ap (λ (t : Task). team_of t.workers (node_count c.args.device.topology)) (sym c.pace_of-pace.ensures.task) ∙ ap (team_of pace.task.workers) (sym many), c.in-Ok.ensures.count.0)
 
 -- ## Where there is no memory for workers
 
