@@ -1,6 +1,6 @@
 //! Steps of a port's output: it is put at its position, made safe, and then confirmed.
 
-ghost use Rattle.std.specs.Prelude.{◌≡◌, ◌<◌, ◌≤◌, ◌+◌, ℕ, false, length, Err, IfOk, OnOk, IfErr, OnErr};
+ghost use Rattle.std.specs.Prelude.{◌≡◌, ◌<◌, ◌≤◌, ◌+◌, ◌++◌, ℕ, false, length, Err, IfOk, OnOk, IfErr, OnErr};
 ghost use Rattle.tp_stream.specs.Lower.{after_confirm, port_in, shown_from, shown_upto_of, confirm_entries, is_journal_full, HoldNoted, IsFor, HasPut, KeepsFront, WasPutSafely, given_of};
 ghost use Rattle.tp_stream.specs.FailedEnds.{NamesOutput, StepNames};
 ghost use Rattle.tp_stream.specs.Standing.{MayBegin, Refuses, from_of, put_out, port_standing};
@@ -14,7 +14,7 @@ use crate::standing::Standing;
 use tp_book::{Book, Receipt};
 use tp_disk::Disk;
 use tp_flush::Flusher;
-use tp_shared::{Locked, Naming, Seat};
+use tp_shared::{HostKey, Locked, Naming, Seat};
 use tp_stream_files::{Output, Sink, SinkFault};
 use tp_work::{ConfirmFault, confirm};
 
@@ -149,20 +149,29 @@ fn confirm_put<J: Naming, D: Disk, S: Sink>(
     output: &mut Output<S>,
     held: &mut Locked<J>,
     seat: &mut Seat<J>,
+    host: &mut HostKey<J>,
     flusher: &Flusher<J, D>,
 ) -> Result<Receipt, StreamFault>
     requires there { output.old.port < length held.old.book.state.ports }
     ensures book { IfOk result (λ receipt. held.new.book ≡ after_confirm held.old.book output.old.port output.old.next) }
     ensures receipt { IfOk result (IsFor (confirm_entries held.old.book output.old.port output.old.next) seat.old seat.new) }
     ensures noted { IfOk result (λ receipt. HoldNoted (λ entries. entries ≡ confirm_entries held.old.book output.old.port output.old.next) J.first held.old held.new seat.old seat.new) }
+    ensures handed { OnOk result (host.new ≡ host.old ++ confirm_entries held.old.book output.old.port output.old.next) }
     ensures confirmed { OnOk result (output.new ≡ record output.old { confirmed = output.old.next }) }
-    ensures err { OnErr result ((held.new ≡ held.old) × (seat.new ≡ seat.old) × (output.new ≡ output.old)) }
+    ensures err { OnErr result ((held.new ≡ held.old) × (seat.new ≡ seat.old) × (host.new ≡ host.old) × (output.new ≡ output.old)) }
     ensures begun { IfErr result CameBetween }
     ensures names { (port : ℕ) → IfErr result (NamesOutput port) }
     ensures room { output.old.next ≤ shown_upto_of held.old.book output.old.port flusher.now.world.mark
         → is_journal_full held.old.book 1 ≡ false → IfErr result OtherThanFull }
 {
-    match confirm(held, seat, output.port(), flusher.mark(), output.put()) {
+    match confirm(
+        held,
+        seat,
+        host,
+        output.port(),
+        flusher.mark(),
+        output.put(),
+    ) {
         Ok(receipt) => {
             output.confirm();
             Ok(receipt)
@@ -178,6 +187,7 @@ pub(crate) fn step<J: Naming, D: Disk, S: Sink>(
     output: &mut Output<S>,
     held: &mut Locked<J>,
     seat: &mut Seat<J>,
+    host: &mut HostKey<J>,
     flusher: &Flusher<J, D>,
 ) -> Result<Receipt, StepFault>
     requires there { output.old.port < length held.old.book.state.ports }
@@ -187,8 +197,9 @@ pub(crate) fn step<J: Naming, D: Disk, S: Sink>(
     ensures book { IfOk result (λ receipt. held.new.book ≡ after_confirm held.old.book output.old.port output.new.next) }
     ensures receipt { IfOk result (IsFor (confirm_entries held.old.book output.old.port output.new.next) seat.old seat.new) }
     ensures noted { IfOk result (λ receipt. HoldNoted (λ entries. entries ≡ confirm_entries held.old.book output.old.port output.new.next) J.first held.old held.new seat.old seat.new) }
+    ensures handed { OnOk result (host.new ≡ host.old ++ confirm_entries held.old.book output.old.port output.new.next) }
     ensures confirmed { OnOk result (output.new.confirmed ≡ output.new.next) }
-    ensures failed { OnErr result ((held.new ≡ held.old) × (seat.new ≡ seat.old)) }
+    ensures failed { OnErr result ((held.new ≡ held.old) × (seat.new ≡ seat.old) × (host.new ≡ host.old)) }
     ensures gone { result ≡ Err TakerGone → output.new ≡ record output.old { held = output.new.held } }
     ensures front { KeepsFront output.old.next output.old.held output.new.held }
     ensures puts { PutsShown held.old.book flusher.now.world.mark output.old output.new }
@@ -198,7 +209,7 @@ pub(crate) fn step<J: Naming, D: Disk, S: Sink>(
     ensures room { is_journal_full held.old.book 1 ≡ false → IfErr result StepsOtherwise }
 {
     match put_shown(output, held.book(), flusher) {
-        Ok(()) => match confirm_put(output, held, seat, flusher) {
+        Ok(()) => match confirm_put(output, held, seat, host, flusher) {
             Ok(receipt) => Ok(receipt),
             Err(fault) => Err(StepFault::Fault(fault)),
         },

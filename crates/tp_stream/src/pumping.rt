@@ -18,7 +18,7 @@ use std::sync::Wait;
 use tp_disk::Disk;
 use tp_flush::Flusher;
 use tp_model::limits::MAX_HELD;
-use tp_shared::{Locked, Naming, Seat, Shared};
+use tp_shared::{HostKey, Locked, Naming, Seat, Shared};
 use tp_stream_files::{Input, Output, Sink, Source, Streams};
 
 /// How many milliseconds the stream waits for input before it checks again whether it is asked to stop, or tells how far it has come.
@@ -80,6 +80,7 @@ pub(crate) fn can_confirm<J: Naming, R: Wait>(rt: &R, shared: &Shared<J>, pace: 
 fn step_output<J: Naming, D: Disk, S: Sink>(
     held: &mut Locked<J>,
     seat: &mut Seat<J>,
+    host: &mut HostKey<J>,
     flusher: &Flusher<J, D>,
     output: &mut Output<S>,
 ) -> Result<Pumped, StreamFault>
@@ -90,13 +91,13 @@ fn step_output<J: Naming, D: Disk, S: Sink>(
     ensures book { IsConfirmed held.old.book held.new.book }
     ensures room { is_journal_full held.old.book 1 ≡ false → IfErr result OtherThanFull }
     ensures came { IfOk result (StepCameTo flusher.now.world.mark held.old.book held.new.book output.old output.new) }
-    ensures failed { OnErr result ((held.new ≡ held.old) × (seat.new ≡ seat.old)) }
+    ensures failed { OnErr result ((held.new ≡ held.old) × (seat.new ≡ seat.old) × (host.new ≡ host.old)) }
 {
     let before = output.put();
     if usize::from(output.port()) >= held.book().ports() {
         return Err(StreamFault::OutputFailed(output.port()));
     }
-    match crate::output::step(output, held, seat, flusher) {
+    match crate::output::step(output, held, seat, host, flusher) {
         Ok(_) => Ok(Pumped::of(output.put() > before)),
         Err(StepFault::Gone) => Ok(Pumped::Gone),
         Err(StepFault::Fault(fault)) => Err(fault),
@@ -108,6 +109,7 @@ fn step_output<J: Naming, D: Disk, S: Sink>(
 fn step_all<J: Naming, D: Disk, S: Sink>(
     held: &mut Locked<J>,
     seat: &mut Seat<J>,
+    host: &mut HostKey<J>,
     flusher: &Flusher<J, D>,
     outputs: &mut [Output<S>],
 ) -> Result<Pumped, StreamFault>
@@ -118,7 +120,7 @@ fn step_all<J: Naming, D: Disk, S: Sink>(
 {
     let mut pumped = Pumped::Nothing;
     for output in outputs.iter_mut() {
-        pumped = pumped.then(step_output(held, seat, flusher, output)?);
+        pumped = pumped.then(step_output(held, seat, host, flusher, output)?);
     }
     Ok(pumped)
 }
@@ -130,6 +132,7 @@ fn step_all<J: Naming, D: Disk, S: Sink>(
 fn step_settled<J: Naming, D: Disk, S: Sink>(
     held: &mut Locked<J>,
     seat: &mut Seat<J>,
+    host: &mut HostKey<J>,
     flusher: &mut Flusher<J, D>,
     outputs: &mut [Output<S>],
 ) -> Result<Pumped, StreamFault>
@@ -146,7 +149,7 @@ fn step_settled<J: Naming, D: Disk, S: Sink>(
     if mark < next {
         return Ok(Pumped::Moved);
     }
-    step_all(held, seat, flusher, outputs)
+    step_all(held, seat, host, flusher, outputs)
 }
 
 /// Takes the book's lock, and makes a step of each output under it.
@@ -154,6 +157,7 @@ fn step_outputs<J: Naming, D: Disk, S: Sink, R: Wait>(
     rt: &R,
     shared: &Shared<J>,
     seat: &mut Seat<J>,
+    host: &mut HostKey<J>,
     flusher: &mut Flusher<J, D>,
     outputs: &mut [Output<S>],
 ) -> Result<Pumped, StreamFault>
@@ -164,7 +168,7 @@ fn step_outputs<J: Naming, D: Disk, S: Sink, R: Wait>(
     ensures ends { (inputs : List ℕ) → IfErr result (NamesEnd outputs.new inputs) }
 {
     let mut held = shared.book().lock(rt);
-    step_settled(&mut held, seat, flusher, outputs)
+    step_settled(&mut held, seat, host, flusher, outputs)
 }
 
 /// Makes a step of a port's input, under the book's lock. Answers whether the port took bytes. It takes only as many as leave the journal room for a
@@ -172,14 +176,15 @@ fn step_outputs<J: Naming, D: Disk, S: Sink, R: Wait>(
 fn step_held<J: Naming, I: Source>(
     held: &mut Locked<J>,
     seat: &mut Seat<J>,
+    host: &mut HostKey<J>,
     pace: Pace,
     may_wait: bool,
     input: &mut Input<I>,
 ) -> Result<bool, StreamFault>
     requires there { input.old.port < length held.old.book.state.ports }
-    ensures taken { result ≡ Ok true → Offered (I.input input.old.source) input.old.port (free_of pace.rooms.journal held.old.book - pace.need) J.first held.old held.new seat.old seat.new }
-    ensures refused { result ≡ Ok false → (held.new ≡ held.old) × (seat.new ≡ seat.old) }
-    ensures err { OnErr result ((held.new ≡ held.old) × (seat.new ≡ seat.old)) }
+    ensures taken { result ≡ Ok true → Offered (I.input input.old.source) input.old.port (free_of pace.rooms.journal held.old.book - pace.need) J.first held.old held.new seat.old seat.new host.old host.new }
+    ensures refused { result ≡ Ok false → (held.new ≡ held.old) × (seat.new ≡ seat.old) × (host.new ≡ host.old) }
+    ensures err { OnErr result ((held.new ≡ held.old) × (seat.new ≡ seat.old) × (host.new ≡ host.old)) }
     ensures begun { IfErr result CameBetween }
     ensures names { IfErr result (NamesInput input.new.port) }
     ensures blocked { input.new.is_blocked ≡ (room_of (port_in held.old.book input.old.port) == 0) }
@@ -192,7 +197,7 @@ fn step_held<J: Naming, I: Source>(
     let free = pace.rooms.free(held.book());
     let most = free.saturating_sub(u64::from(pace.need));
     let mut piece = [0u8; MAX_HELD];
-    crate::input::step(input, held, seat, &mut piece, most)
+    crate::input::step(input, held, seat, host, &mut piece, most)
 }
 
 /// Takes the book's lock, and makes a step of a port's input under it. Answers whether the port took bytes.
@@ -201,6 +206,7 @@ fn step_input<J: Naming, I: Source, R: Wait>(
     shared: &Shared<J>,
     pace: Pace,
     seat: &mut Seat<J>,
+    host: &mut HostKey<J>,
     may_wait: bool,
     input: &mut Input<I>,
 ) -> Result<bool, StreamFault>
@@ -212,7 +218,7 @@ fn step_input<J: Naming, I: Source, R: Wait>(
     if input.port() >= shared.ports() {
         return Err(StreamFault::InputFailed(input.port()));
     }
-    step_held(&mut held, seat, pace, may_wait, input)
+    step_held(&mut held, seat, host, pace, may_wait, input)
 }
 
 /// Finds, under the book's lock, the first input whose bytes haven't come yet while the journal and its port have room for them. Answers its port,
@@ -291,6 +297,7 @@ pub(crate) fn step_inputs<J: Naming, I: Source, R: Wait>(
     shared: &Shared<J>,
     pace: Pace,
     seat: &mut Seat<J>,
+    host: &mut HostKey<J>,
     may_wait: bool,
     inputs: &mut [Input<I>],
 ) -> Result<Pumped, StreamFault>
@@ -300,7 +307,7 @@ pub(crate) fn step_inputs<J: Naming, I: Source, R: Wait>(
 {
     let mut has_moved = false;
     for input in inputs.iter_mut() {
-        if step_input(rt, shared, pace, seat, may_wait, input)? {
+        if step_input(rt, shared, pace, seat, host, may_wait, input)? {
             has_moved = true;
         }
     }
@@ -314,6 +321,7 @@ fn pump_inputs<J: Naming, I: Source, R: Wait>(
     shared: &Shared<J>,
     pace: Pace,
     seat: &mut Seat<J>,
+    host: &mut HostKey<J>,
     put: Pumped,
     may_wait: bool,
     inputs: &mut [Input<I>],
@@ -322,11 +330,11 @@ fn pump_inputs<J: Naming, I: Source, R: Wait>(
     ensures ends { (outputs : List OutputValue) → IfErr result (NamesEnd outputs (map (λ i. i.port) inputs.new)) }
     ensures there { AreTakersThere put → IfOk result AreTakersThere }
 {
-    let pumped = put.then(step_inputs(rt, shared, pace, seat, false, inputs)?);
+    let pumped = put.then(step_inputs(rt, shared, pace, seat, host, false, inputs)?);
     if pumped != Pumped::Nothing || !may_wait {
         return Ok(pumped);
     }
-    step_inputs(rt, shared, pace, seat, true, inputs)
+    step_inputs(rt, shared, pace, seat, host, true, inputs)
 }
 
 /// Makes a step of each output, and then of each input. Outputs are put and confirmed up to the flusher's mark: they are outputs in the network to
@@ -337,6 +345,7 @@ pub(crate) fn pump<J: Naming, D: Disk, S: Sink, I: Source, R: Wait>(
     shared: &Shared<J>,
     pace: Pace,
     seat: &mut Seat<J>,
+    host: &mut HostKey<J>,
     flusher: &mut Flusher<J, D>,
     may_wait: bool,
     streams: &mut Streams<S, I>,
@@ -348,9 +357,18 @@ pub(crate) fn pump<J: Naming, D: Disk, S: Sink, I: Source, R: Wait>(
     ensures ends { IfErr result (NamesEnd streams.new.outputs.items (map (λ i. i.port) streams.new.inputs.items)) }
     ensures gone { result ≡ Ok Gone → streams.new.inputs ≡ streams.old.inputs }
 {
-    let put = step_outputs(rt, shared, seat, flusher, &mut streams.outputs)?;
+    let put = step_outputs(rt, shared, seat, host, flusher, &mut streams.outputs)?;
     if put == Pumped::Gone {
         return Ok(Pumped::Gone);
     }
-    pump_inputs(rt, shared, pace, seat, put, may_wait, &mut streams.inputs)
+    pump_inputs(
+        rt,
+        shared,
+        pace,
+        seat,
+        host,
+        put,
+        may_wait,
+        &mut streams.inputs,
+    )
 }

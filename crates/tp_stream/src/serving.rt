@@ -33,16 +33,17 @@ use std::thread::Threads;
 use tp_disk::Disk;
 use tp_flush::Flusher;
 use tp_node::Runs;
-use tp_shared::{Naming, Seat};
+use tp_shared::{HostKey, Naming, Seat};
 use tp_stream_files::{Ended, Ending, Input, Listener, Sink, Source, Stop, Streams};
 
 /// How far a stream is: its turns, and the known runs of the calling thread (`runs`). `seat` has the slips of what the turns journalled, `steps` of
-/// what steps of outputs and inputs did.
+/// what steps of outputs and inputs did. `host` is the right to hand in bytes and to confirm outputs, and shows all that was.
 #[derive(Drop)]
 pub(crate) struct Going<J: Naming> {
     pub(crate) turns: Turns,
     pub(crate) seat: Seat<J>,
     pub(crate) steps: Seat<J>,
+    pub(crate) host: HostKey<J>,
     pub(crate) runs: Runs,
 }
 
@@ -53,6 +54,7 @@ impl<J: Naming> Going<J> {
         ground: Ground<'_, J, R>,
         seat: Seat<J>,
         steps: Seat<J>,
+        host: HostKey<J>,
         runs: Runs,
     ) -> Going<J>
         ensures rested { HaveRested J.start result.turns.whose result.turns.idle }
@@ -63,6 +65,7 @@ impl<J: Naming> Going<J> {
             turns: Turns::new(has_halted),
             seat,
             steps,
+            host,
             runs,
         }
     }
@@ -80,12 +83,20 @@ fn take_awaited<J: Naming, I: Source, R: Wait>(
     going: &mut Going<J>,
     inputs: &mut [Input<I>],
 ) -> Result<Option<Pumped>, StreamFault>
-    ensures steps { going.new ≡ record going.old { steps = going.new.steps } }
+    ensures steps { going.new ≡ record going.old { steps = going.new.steps; host = going.new.host } }
     ensures begun { IfErr result CameBetween }
     ensures ends { (outputs : List OutputValue) → IfErr result (NamesEnd outputs (map (λ i. i.port) inputs.new)) }
 {
     let Ground { rt, net, pace, .. } = ground;
-    match step_inputs(rt, net.shared(), pace, &mut going.steps, false, inputs) {
+    match step_inputs(
+        rt,
+        net.shared(),
+        pace,
+        &mut going.steps,
+        &mut going.host,
+        false,
+        inputs,
+    ) {
         Ok(Pumped::Nothing) => Ok(None),
         Ok(came) => Ok(Some(came)),
         Err(fault) => Err(fault),
@@ -99,7 +110,7 @@ fn take_or<J: Naming, I: Source, R: Wait>(
     inputs: &mut [Input<I>],
     pumped: Pumped,
 ) -> Result<Option<Pumped>, StreamFault>
-    ensures steps { going.new ≡ record going.old { steps = going.new.steps } }
+    ensures steps { going.new ≡ record going.old { steps = going.new.steps; host = going.new.host } }
     ensures begun { IfErr result CameBetween }
     ensures ends { (outputs : List OutputValue) → IfErr result (NamesEnd outputs (map (λ i. i.port) inputs.new)) }
 {
@@ -119,7 +130,7 @@ fn rest_where_late<J: Naming, I: Source, R: Wait>(
     pumped: Pumped,
     over: bool,
 ) -> Result<Option<Pumped>, StreamFault>
-    ensures steps { going.new ≡ record going.old { steps = going.new.steps } }
+    ensures steps { going.new ≡ record going.old { steps = going.new.steps; host = going.new.host } }
     ensures begun { IfErr result CameBetween }
     ensures ends { (outputs : List OutputValue) → IfErr result (NamesEnd outputs (map (λ i. i.port) inputs.new)) }
 {
@@ -210,7 +221,7 @@ fn go_on<J: Naming, D: Disk, S: Sink, I: Source, P: Stop, R: Wait>(
     ensures why { IfOk result (λ ended. IfSome ended (IsWhyEnded J.start ground.entry.pace.task)) }
     ensures inputs { IfOk result (λ ended. IfSome ended (LeavesNoInput (list_all (λ i. is_over i.ended i.is_blocked) streams.new.inputs.items))) }
     ensures looks { IfOk result (LooksOnce ground.entry.pace.task going.old.turns.made going.new.turns.made (P.answers stop.old) (P.answers stop.new)) }
-    ensures over { IfOk result (λ ended. IfSome ended (λ why. going.new ≡ record going.old { steps = going.new.steps })) }
+    ensures over { IfOk result (λ ended. IfSome ended (λ why. going.new ≡ record going.old { steps = going.new.steps; host = going.new.host })) }
     ensures rested { OnOk result (HaveRested J.start going.new.turns.whose going.new.turns.idle) }
     ensures made { MadeRound (length J.start.nodes) going.old.turns going.new.turns }
     ensures begun { IfErr result CameBetween }
@@ -240,6 +251,7 @@ fn go_on<J: Naming, D: Disk, S: Sink, I: Source, P: Stop, R: Wait>(
         shared,
         pace,
         &mut going.steps,
+        &mut going.host,
         flusher,
         may_wait,
         streams,
@@ -269,7 +281,7 @@ fn cycle<J: Naming, D: Disk, S: Sink, I: Source, L: Listener, P: Stop, R: Wait>(
     ensures looks { IfOk result (LooksOnce ground.entry.pace.task going.old.turns.made going.new.turns.made (P.answers stop.old) (P.answers stop.new)) }
     ensures told { ToldLater (length J.start.nodes) (L.told listener.old) (L.told listener.new) }
     ensures progress { OnOk result (TellsProgress ground.entry.pace.task.tells ground.entry.pace.rooms.journal flusher.new going.old.turns.made streams.old.outputs.items (L.told listener.old) (L.told listener.new)) }
-    ensures over { IfOk result (λ ended. IfSome ended (λ why. going.new ≡ record going.old { steps = going.new.steps })) }
+    ensures over { IfOk result (λ ended. IfSome ended (λ why. going.new ≡ record going.old { steps = going.new.steps; host = going.new.host })) }
     ensures rested { OnOk result (HaveRested J.start going.new.turns.whose going.new.turns.idle) }
     ensures made { MadeRound (length J.start.nodes) going.old.turns going.new.turns }
     ensures ends { IfErr result (NamesEnd streams.new.outputs.items (map (λ i. i.port) streams.new.inputs.items)) }

@@ -102,7 +102,7 @@ fn stream_parts<
     stop: &mut P,
 ) -> (D, Result<Ended, StreamFault>)
     requires quantum { task.quantum ≤ MAX_STEPS }
-    requires names { Names J.roll J.first J.start J.node J.mark J.flusher J.sights J.room device.parts }
+    requires names { Names J.roll J.first J.start J.node J.mark J.flusher J.host J.sights J.room device.parts }
     requires stands { IsMadeOf device.opened.value device.parts device.raiser }
     requires bound { device.parts.book.room ≡ Some (room device.opened.value.head.topology device.opened.value.head.areas.length) }
     requires cut { IsCut t414_ends device.opened.value.head.topology device.opened.value.base device.opened.value.cut }
@@ -134,7 +134,7 @@ fn stream_parts<
         store,
     } = device;
     let pace = pace_of(task, &topology, store.place.areas.length);
-    let Ok((mut net, seats, key)) = Net::<J, NoGate>::start(
+    let Ok((mut net, seats, key, host)) = Net::<J, NoGate>::start(
         rt,
         alloc,
         parts,
@@ -153,7 +153,7 @@ fn stream_parts<
         net: &net,
         pace,
     };
-    let going = Going::new(ground, seat, steps, runs);
+    let going = Going::new(ground, seat, steps, host, runs);
     let done = serve(ground, seats, going, &mut flusher, streams, listener, stop);
     (flusher.into_disk(), done)
 }

@@ -100,13 +100,13 @@ fn is_taken_once<J: Naming + Send + Sync, R: Threads + Wait + Sync>(
     opening: Opening<MemDisk>,
 ) -> Result<bool, Fail>
     requires spelt { IsSpelt opening.opened.value }
-    requires names { Names J.roll J.first J.start J.node J.mark J.flusher J.sights J.room opening.parts }
+    requires names { Names J.roll J.first J.start J.node J.mark J.flusher J.host J.sights J.room opening.parts }
 {
     let alone = Alone {
         hold: Hold::new(HELD, RUN_DONE),
         taken: AtomicU32::new(0),
     };
-    let (net, seats, _flusher, _pass) = begin::<J, MemDisk, Lent<'_>, R>(
+    let (net, seats, _flusher, _pass, _key) = begin::<J, MemDisk, Lent<'_>, R>(
         rt,
         alloc,
         opening,

@@ -15,7 +15,7 @@ use tp_flush::{FlushFault, Flusher};
 use tp_model::{Entry, Form};
 use tp_node::Why;
 use tp_ready::Pass;
-use tp_shared::{Naming, NoGate, Seat as Slips, Shared, Sights};
+use tp_shared::{HostKey, Naming, NoGate, Seat as Slips, Shared, Sights};
 use tp_work::{ConfirmFault, Net, OfferFault, Seat, Session, ShownFault, TurnFault};
 
 /// What a turn did: whose it was, how many tokens it took, and how many steps it ran and why no more, if it runs.
@@ -54,12 +54,13 @@ pub(crate) struct Left {
     pub(crate) told: Told,
 }
 
-/// A network in threads, a worker's seat, the host's, its flusher, a pass of its mark, and what was told.
+/// A network in threads, a worker's seat, the host's seat and key, its flusher, a pass of its mark, and what was told.
 #[derive(Drop)]
 pub(crate) struct Desk<J: Naming> {
     net: Net<J, NoGate>,
     seat: Seat<J>,
     host: Slips<J>,
+    key: HostKey<J>,
     flusher: Flusher<J, Unkind>,
     pass: Pass,
     pub(crate) told: Told,
@@ -85,12 +86,13 @@ pub(crate) fn begin<J: Naming, R: Wait>(
     quantum: u16,
     told: Told,
 ) -> Option<Desk<J>>
-    requires names { Names J.roll J.first J.start J.node J.mark J.flusher J.sights J.room opening.parts }
+    requires names { Names J.roll J.first J.start J.node J.mark J.flusher J.host J.sights J.room opening.parts }
     requires spelt { IsSpelt opening.opened.value }
     requires quantum { (0 < quantum) × (quantum ≤ MAX_STEPS) }
 {
-    let Ok((mut net, seats, flusher, pass)) = begin_with(rt, alloc, opening, quantum, 1, NoGate)
-    else {
+    let Ok((mut net, seats, flusher, pass, key)) = begin_with(
+        rt, alloc, opening, quantum, 1, NoGate,
+    ) else {
         return None;
     };
     let Some(seat) = seat_of(&net, seats) else {
@@ -101,6 +103,7 @@ pub(crate) fn begin<J: Naming, R: Wait>(
         net,
         seat,
         host,
+        key,
         flusher,
         pass,
         told,
@@ -243,7 +246,14 @@ impl<J: Naming> Desk<J> {
         bytes: &[u8],
     ) -> Option<Result<u64, OfferFault>> {
         let session = Session::new(self.net.shared(), 0)?;
-        match session.offer(rt, at, bytes, &mut self.host, &mut Sights::new()) {
+        match session.offer(
+            rt,
+            at,
+            bytes,
+            &mut self.host,
+            &mut self.key,
+            &mut Sights::new(),
+        ) {
             Ok(receipt) => Some(Ok(receipt.number())),
             Err(fault) => Some(Err(fault)),
         }
@@ -308,7 +318,14 @@ impl<J: Naming> Desk<J> {
     /// Confirms the outputs of the port up to a position.
     fn receipt_of<R: Wait>(&mut self, rt: &R, upto: u64) -> Option<Result<Receipt, ConfirmFault>> {
         let session = Session::new(self.net.shared(), 0)?;
-        Some(session.confirm(rt, upto, &mut self.pass, &mut self.host, &mut Sights::new()))
+        Some(session.confirm(
+            rt,
+            upto,
+            &mut self.pass,
+            &mut self.host,
+            &mut self.key,
+            &mut Sights::new(),
+        ))
     }
 
     /// Whether the pass says that a receipt is stored.

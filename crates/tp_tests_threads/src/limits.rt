@@ -99,12 +99,13 @@ fn are_made<J: Naming, R: Wait>(
 
 /// Whether a network begins with `quantum` steps a turn and `seats` seats.
 fn starts<J: Naming, R: Wait>(rt: &R, alloc: Global, parts: Parts, quantum: u16, seats: u8) -> bool
-    requires names { Names J.roll J.first J.start J.node J.mark J.flusher J.sights J.room parts }
+    requires names { Names J.roll J.first J.start J.node J.mark J.flusher J.host J.sights J.room parts }
     requires quantum { (0 < quantum) × (quantum ≤ MAX_STEPS) }
     requires seats { (0 < seats) × (seats ≤ MAX_SEATS) }
 {
-    let Ok((net, given, _key)) = Net::<J, NoGate>::start(rt, alloc, parts, quantum, seats, NoGate)
-    else {
+    let Ok((net, given, _key, _host)) = Net::<J, NoGate>::start(
+        rt, alloc, parts, quantum, seats, NoGate,
+    ) else {
         return false;
     };
     are_made(rt, &net, given, seats, quantum)

@@ -11,7 +11,7 @@ use tp_book::Receipt;
 use tp_disk::Disk;
 use tp_flush::Flusher;
 use tp_ready::Pass;
-use tp_shared::{Gate, Naming, NoGate, Seat, Shared, Sights};
+use tp_shared::{Gate, HostKey, Naming, NoGate, Seat, Shared, Sights};
 use tp_work::Session;
 
 /// Makes turns of the flusher until the others have ended. Answers whether all of them were done.
@@ -69,12 +69,15 @@ fn store_pair<J: Naming, R: Wait>(
     session: &Session<'_, J>,
     at: u64,
     seat: &mut Seat<J>,
+    key: &mut HostKey<J>,
     pass: &mut Pass,
 ) -> Option<Receipt>
     requires { pass.old.mark ≡ J.mark }
     ensures { pass.new.mark ≡ J.mark }
 {
-    let receipt = session.offer(rt, at, b"ab", seat, &mut Sights::new()).ok()?;
+    let receipt = session
+        .offer(rt, at, b"ab", seat, key, &mut Sights::new())
+        .ok()?;
     if comes_stored(session, &receipt, pass) {
         Some(receipt)
     } else {
@@ -91,6 +94,7 @@ fn store_pairs<J: Naming, R: Wait>(
     from: u64,
     count: u64,
     seat: &mut Seat<J>,
+    key: &mut HostKey<J>,
     pass: &mut Pass,
 ) -> Result<bool, AllocError>
     requires { pass.old.mark ≡ J.mark }
@@ -99,7 +103,7 @@ fn store_pairs<J: Naming, R: Wait>(
     let mut receipts = Vec::new(alloc);
     for place in 0..count {
         let at = place.wrapping_mul(2).wrapping_add(from);
-        let Some(receipt) = store_pair(rt, session, at, seat, pass) else {
+        let Some(receipt) = store_pair(rt, session, at, seat, key, pass) else {
             return Ok(false);
         };
         receipts.push(receipt)?;
@@ -115,12 +119,13 @@ fn is_early<J: Naming, R: Wait>(
     rt: &R,
     session: &Session<'_, J>,
     seat: &mut Seat<J>,
+    key: &mut HostKey<J>,
     pass: &mut Pass,
 ) -> bool
     requires { pass.old.mark ≡ J.mark }
     ensures { pass.new.mark ≡ J.mark }
 {
-    match session.offer(rt, 0, b"ab", seat, &mut Sights::new()) {
+    match session.offer(rt, 0, b"ab", seat, key, &mut Sights::new()) {
         Ok(receipt) => !session.is_stored(&receipt, pass),
         Err(_) => false,
     }
@@ -135,6 +140,7 @@ pub fn stays_stored<J: Naming + Send + Sync, D: Disk + Drop, R: Threads + Wait +
     flusher: &mut Flusher<J, D>,
     count: u64,
     seat: &mut Seat<J>,
+    key: &mut HostKey<J>,
     mut pass: Pass,
 ) -> bool
     requires { pass.mark ≡ J.mark }
@@ -142,7 +148,7 @@ pub fn stays_stored<J: Naming + Send + Sync, D: Disk + Drop, R: Threads + Wait +
     let Some(session) = Session::new(shared, 0) else {
         return false;
     };
-    let is_early = is_early(rt, &session, seat, &mut pass);
+    let is_early = is_early(rt, &session, seat, key, &mut pass);
     let ended = AtomicBool::new(false);
     let (lent, told) = (&session, &ended);
     let (stored, is_done) = join(
@@ -150,7 +156,7 @@ pub fn stays_stored<J: Naming + Send + Sync, D: Disk + Drop, R: Threads + Wait +
         move || -> Result<bool, AllocError>
             requires { pass.mark ≡ J.mark }
         {
-            let stored = store_pairs(rt, alloc, lent, 2, count, seat, &mut pass);
+            let stored = store_pairs(rt, alloc, lent, 2, count, seat, key, &mut pass);
             told.store(true, Ordering::SeqCst);
             stored
         },

@@ -14,7 +14,7 @@ use tp_flush::{Flusher, topology_of};
 use tp_net::Topology;
 use tp_ready::{Mark, Pass, Raiser};
 use tp_recover::{Opened, Unopened, open};
-use tp_shared::{Gate, Naming, Parts};
+use tp_shared::{Gate, HostKey, Naming, Parts};
 use tp_work::{Net, Seat, nodes_of};
 
 /// How many steps a node's turn has, if nothing else is asked for.
@@ -107,15 +107,15 @@ pub fn opening_with<D: Disk + Drop>(
     })
 }
 
-/// Puts it under locks, with as many seats as `workers` says, and makes a pass and its flusher.
+/// Puts it under locks, with as many seats as `workers` says, and makes its flusher, a pass and the host's key.
 pub fn begin<J: Naming, D: Disk + Drop, G: Gate + Drop, R: Wait>(
     rt: &R,
     alloc: Global,
     opening: Opening<D>,
     workers: u8,
     gate: G,
-) -> Result<(Net<J, G>, Vec<Seat<J>>, Flusher<J, D>, Pass), AllocError>
-    requires names { Names J.roll J.first J.start J.node J.mark J.flusher J.sights J.room opening.parts }
+) -> Result<(Net<J, G>, Vec<Seat<J>>, Flusher<J, D>, Pass, HostKey<J>), AllocError>
+    requires names { Names J.roll J.first J.start J.node J.mark J.flusher J.host J.sights J.room opening.parts }
     requires spelt { IsSpelt opening.opened.value }
     requires workers { (0 < workers) × (workers ≤ MAX_SEATS) }
     ensures seats { IfOk result (λ begun. All (λ seat. (seat.hand.of ≡ Some begun.0.queue) × (seat.slips ≡ [])) begun.1.items) }
@@ -132,8 +132,8 @@ pub fn begin_with<J: Naming, D: Disk + Drop, G: Gate + Drop, R: Wait>(
     quantum: u16,
     workers: u8,
     gate: G,
-) -> Result<(Net<J, G>, Vec<Seat<J>>, Flusher<J, D>, Pass), AllocError>
-    requires names { Names J.roll J.first J.start J.node J.mark J.flusher J.sights J.room opening.parts }
+) -> Result<(Net<J, G>, Vec<Seat<J>>, Flusher<J, D>, Pass, HostKey<J>), AllocError>
+    requires names { Names J.roll J.first J.start J.node J.mark J.flusher J.host J.sights J.room opening.parts }
     requires spelt { IsSpelt opening.opened.value }
     requires quantum { (0 < quantum) × (quantum ≤ MAX_STEPS) }
     requires workers { (0 < workers) × (workers ≤ MAX_SEATS) }
@@ -148,8 +148,8 @@ pub fn begin_with<J: Naming, D: Disk + Drop, G: Gate + Drop, R: Wait>(
         store,
         ..
     } = opening;
-    let (net, seats, key) = Net::<J, G>::start(rt, alloc, parts, quantum, workers, gate)?;
+    let (net, seats, key, host) = Net::<J, G>::start(rt, alloc, parts, quantum, workers, gate)?;
     let pass = net.shared().mark().pass(&mut raiser);
     let flusher = Flusher::over(opened, topology, store, key, raiser);
-    Ok((net, seats, flusher, pass))
+    Ok((net, seats, flusher, pass, host))
 }

@@ -29,7 +29,7 @@ use tp_model::Entry;
 use tp_node::Runs;
 use tp_ready::Pass;
 use tp_replay::FlatNetwork;
-use tp_shared::{Naming, Seat as Slips, Shared};
+use tp_shared::{HostKey, Naming, Seat as Slips, Shared};
 use tp_work::{Net, Seat};
 
 /// How many turns a team makes beside those: fewer than end at the gate that keeps pace.
@@ -116,6 +116,7 @@ fn are_stored_beside<J: Naming + Send + Sync, D: Disk + Drop, R: Threads + Wait 
     net: &Net<J, Paced<'_>>,
     seats: Vec<Seat<J>>,
     slips: &mut Slips<J>,
+    key: &mut HostKey<J>,
     flusher: &mut Flusher<J, D>,
     count: u64,
     pass: Pass,
@@ -130,7 +131,7 @@ fn are_stored_beside<J: Naming + Send + Sync, D: Disk + Drop, R: Threads + Wait 
         { work_all(rt, net, seats, None) },
         move || -> bool
             requires { pass.mark ≡ J.mark }
-        { stays_stored(rt, alloc, net.shared(), flusher, count, slips, pass) },
+        { stays_stored(rt, alloc, net.shared(), flusher, count, slips, key, pass) },
     );
     worked && is_so
 }
@@ -169,6 +170,7 @@ fn act<J: Naming + Send + Sync, D: Disk + Drop, R: Threads + Wait + Sync>(
     seats: Vec<Seat<J>>,
     first: u64,
     slips: &mut Slips<J>,
+    key: &mut HostKey<J>,
     runs: &mut Runs,
     flusher: &mut Flusher<J, D>,
     pass: Pass,
@@ -185,12 +187,13 @@ fn act<J: Naming + Send + Sync, D: Disk + Drop, R: Threads + Wait + Sync>(
             is_so && (is_last || stores_all(rt, alloc, net.shared(), flusher))
         }
         Scene::Stored(count) => {
-            are_stored_beside(rt, alloc, net, seats, slips, flusher, count, pass)
+            are_stored_beside(rt, alloc, net, seats, slips, key, flusher, count, pass)
         }
         Scene::Team(turns) => {
             let gate = Paced { pace };
-            are_all_beside(rt, alloc, net, seats, turns, first, slips, flusher, &gate)
-                && pace.met() == turns / EVERY
+            are_all_beside(
+                rt, alloc, net, seats, turns, first, slips, key, flusher, &gate,
+            ) && pace.met() == turns / EVERY
         }
         Scene::Trim(wanted) => is_trimmed(rt, alloc, net.shared(), slips, runs, flusher, wanted),
         Scene::Overlap => overlap(rt, alloc, net.shared(), slips, runs, seats),
@@ -283,13 +286,13 @@ fn play<J: Naming + Send + Sync, R: Threads + Wait + Sync>(
     scene: Scene<'_>,
 ) -> Result<bool, Fail>
     requires spelt { IsSpelt opening.opened.value }
-    requires names { Names J.roll J.first J.start J.node J.mark J.flusher J.sights J.room opening.parts }
+    requires names { Names J.roll J.first J.start J.node J.mark J.flusher J.host J.sights J.room opening.parts }
     requires workers { (0 < workers) × (workers ≤ MAX_SEATS) }
 {
     let first = opening.first;
     let pace = Pace::new();
     let gate = Paced { pace: &pace };
-    let (mut net, seats, mut flusher, pass) = begin::<J, MemDisk, Paced<'_>, R>(
+    let (mut net, seats, mut flusher, pass, mut key) = begin::<J, MemDisk, Paced<'_>, R>(
         rt, alloc, opening, workers, gate,
     )?;
     let mut slips = net.seat();
@@ -302,6 +305,7 @@ fn play<J: Naming + Send + Sync, R: Threads + Wait + Sync>(
         seats,
         first,
         &mut slips,
+        &mut key,
         &mut runs,
         &mut flusher,
         pass,

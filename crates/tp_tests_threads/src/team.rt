@@ -7,7 +7,7 @@ use std::alloc::AllocError;
 use std::sync::Wait;
 use std::sync::atomic::{AtomicU32, Ordering};
 use std::thread::{Threads, join, map_vec, yield_now};
-use tp_shared::{Gate, Locked, Naming, Seat as Slips, Sights};
+use tp_shared::{Gate, HostKey, Locked, Naming, Seat as Slips, Sights};
 use tp_work::{Net, Seat, Session};
 
 /// What a worker's turns journalled: their slips, and whether a turn was refused.
@@ -130,10 +130,11 @@ pub fn offer_pairs<J: Naming, R: Wait>(
     session: &Session<'_, J>,
     count: u64,
     seat: &mut Slips<J>,
+    key: &mut HostKey<J>,
 ) {
     for place in 0..count {
         let at = place.wrapping_mul(2);
-        let _receipt = session.offer(rt, at, b"ab", seat, &mut Sights::new());
+        let _receipt = session.offer(rt, at, b"ab", seat, key, &mut Sights::new());
         yield_now();
     }
 }

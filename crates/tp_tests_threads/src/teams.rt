@@ -11,7 +11,7 @@ use std::thread::{Threads, join};
 use tp_book::Book;
 use tp_disk::Disk;
 use tp_flush::Flusher;
-use tp_shared::{Gate, Naming, Seat as Slips};
+use tp_shared::{Gate, HostKey, Naming, Seat as Slips};
 use tp_work::{Net, Seat, Session};
 
 /// How many pairs of bytes are handed in meanwhile.
@@ -41,6 +41,7 @@ fn work_and_end<J: Naming + Send + Sync, G: Gate + Send + Sync, R: Threads + Wai
     one: Seat<J>,
     others: Vec<Seat<J>>,
     slips: &mut Slips<J>,
+    key: &mut HostKey<J>,
     ended: &AtomicBool,
 ) -> Result<Work<J>, AllocError>
     requires one { (one.hand.of ≡ Some net.now.queue) × (one.slips ≡ []) }
@@ -48,7 +49,7 @@ fn work_and_end<J: Naming + Send + Sync, G: Gate + Send + Sync, R: Threads + Wai
 {
     let (_, worked) = join(
         rt,
-        move || offer_pairs(rt, session, PAIRS, slips),
+        move || offer_pairs(rt, session, PAIRS, slips, key),
         move || -> Result<Work<J>, AllocError>
             requires { (one.hand.of ≡ Some net.now.queue) × (one.slips ≡ []) × All (λ seat. (seat.hand.of ≡ Some net.now.queue) × (seat.slips ≡ [])) others.items }
         { work_as_team(rt, net, turns, one, others) },
@@ -72,6 +73,7 @@ fn work_beside<
     one: Seat<J>,
     others: Vec<Seat<J>>,
     slips: &mut Slips<J>,
+    key: &mut HostKey<J>,
     flusher: &mut Flusher<J, D>,
     gate: &G,
 ) -> Option<Work<J>>
@@ -87,7 +89,7 @@ fn work_beside<
         rt,
         move || -> Result<Work<J>, AllocError>
             requires { (one.hand.of ≡ Some net.now.queue) × (one.slips ≡ []) × All (λ seat. (seat.hand.of ≡ Some net.now.queue) × (seat.slips ≡ [])) others.items }
-        { work_and_end(rt, net, host, turns, one, others, slips, told) },
+        { work_and_end(rt, net, host, turns, one, others, slips, key, told) },
         move || flush_meanwhile(rt, alloc, net.shared(), flusher, gate, told),
     );
     if is_done { worked.ok() } else { None }
@@ -116,6 +118,7 @@ pub fn are_all_beside<
     turns: u32,
     first: u64,
     slips: &mut Slips<J>,
+    key: &mut HostKey<J>,
     flusher: &mut Flusher<J, D>,
     gate: &G,
 ) -> bool
@@ -125,7 +128,9 @@ pub fn are_all_beside<
     let Some((one, others)) = parted(net, seats) else {
         return false;
     };
-    let worked = work_beside(rt, alloc, net, turns, one, others, slips, flusher, gate);
+    let worked = work_beside(
+        rt, alloc, net, turns, one, others, slips, key, flusher, gate,
+    );
     let Some(all) = worked else {
         return false;
     };

@@ -10,6 +10,7 @@ ghosts-stream_parts g a = record {
   node = name_of a.device.parts.seals;
   mark = a.device.parts.mark;
   flusher = a.device.parts.flusher;
+  host = a.device.parts.host;
   sights = a.device.parts.sights;
   room = a.device.parts.book.room;
   formatted = g.history.formatted;

@@ -11,6 +11,7 @@ ghosts-is_taken_once g a = record {
   node = name_of a.opening.parts.seals;
   mark = a.opening.parts.mark;
   flusher = a.opening.parts.flusher;
+  host = a.opening.parts.host;
   sights = a.opening.parts.sights;
   room = a.opening.parts.book.room;
   formatted = a.opening.parts.book.state.start;

@@ -11,6 +11,7 @@ ghosts-starts g a = record {
   node = name_of a.parts.seals;
   mark = a.parts.mark;
   flusher = a.parts.flusher;
+  host = a.parts.host;
   sights = a.parts.sights;
   room = a.parts.book.room;
   formatted = a.parts.book.state.start;
