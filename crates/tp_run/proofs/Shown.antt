@@ -1,12 +1,12 @@
 -- What is printed: outputs of a port in a book, and in the network to which the flusher's journal leads.
-use Rattle.std.proofs.Common.{◌≡◌, ℕ, ◌+◌, ◌-◌, ◌≤◌, inl, inr, Bool, true, false, cond, List, [], ◌∷◌, ◌++◌, length, take, drop, Option, Result, Ok, Err, refl, sym, ap, subst, ◌∙◌, arith, append-nil, length-append}
+use Rattle.std.proofs.Common.{◌≡◌, ℕ, ◌+◌, ◌-◌, ◌≤◌, inl, inr, Bool, true, false, cond, List, [], ◌∷◌, ◌++◌, length, take, drop, drop-drop, Option, Result, Ok, Err, refl, sym, ap, subst, ◌∙◌, arith, append-nil, length-append}
 use Rattle.std.specs.Prelude.{map, nat_le, IfOk}
-use Rattle.tp_run.proofs.Lower.{enumerate_from, take_all, take-take, Appends, Entry, Confirm, NodeState, t414, Network, plain_network, after, State, moment, device_areas, World, RecoversTo, weaker, chain_leads, BookValue, next_in_book, world_of, marks_of, after_confirm, port_in, shown_from, shown_of, shown_upto_of, with_confirmed, confirm_entries, ReceiptValue, IsFor, IsAheadOf, Reached, Flushing, Walked, reached_then, walked_nowhere, walked_recovers, walked_stays, recovers_less}
+use Rattle.tp_run.proofs.Lower.{Began, enumerate_from, take_all, take-take, Appends, Entry, Confirm, NodeState, t414, Network, plain_network, after, State, moment, device_areas, World, RecoversTo, weaker, chain_leads, BookValue, next_in_book, world_of, marks_of, after_confirm, port_in, shown_from, shown_of, shown_upto_of, with_confirmed, confirm_entries, ReceiptValue, IsFor, IsAheadOf, Reached, Flushing, Walked, reached_then, walked_nowhere, walked_recovers, walked_stays, recovers_less}
 use Rattle.tp_run.specs.declared.fault.RunFault.{RunFault}
 use Rattle.tp_run.specs.Output.{AreOutputs, AreShownBytes, IsForOutput, PrintedOf, ShowsAll, confirms}
 use Rattle.tp_run.specs.Outlet.{OutletValue, WasCalled}
 use Rattle.tp_run.specs.Prints.{MayBeSilent, PrintsAt, PrintsOf, PrintsSo, TellsAllPrinted}
-use Rattle.tp_run.specs.Shown.{AreShownIn, MayPrint, MayShow}
+use Rattle.tp_run.specs.Shown.{AreShownIn, MayPrint, MayShow, MayTake}
 use Rattle.tp_run.proofs.Slips.{confirms_shown}
 
 -- ## In the book
@@ -96,6 +96,31 @@ shows_book start w b port mark confirmed number A S at is =
       omega (arith, is, stored, at),
       record { state = plain_network (world_of b).live; leads = ap (after t414 start) front ∙ A.leads; base = S.base; are = refl },
     )
+
+-- all outputs that such a book keeps may be printed
+pub may_take_all : (keeps : Type 0) (start : Network NodeState) (before : World NodeState) (f : Flushing) (b : BookValue) (port mark confirmed : ℕ) → (keeps → Began start before f.opened → IsAheadOf start f.world b)
+    → mark ≡ f.world.mark → ShowsAll b port mark confirmed → MayTake keeps start before f (shown_from b port mark (port_in b port).out_base)
+may_take_all keeps start before f b port mark confirmed ahead at S = record {
+  port = port;
+  confirmed = confirmed;
+  number = next_in_book b;
+  outputs = (port_in b port).outputs;
+  taken = 0;
+  rest = all_shown b port mark S.all;
+  shown = λ k began. shows_book start f.world b port mark confirmed (next_in_book b) (ahead k began) S at refl;
+}
+
+-- and then the rest of them
+pub may_take_rest : (keeps : Type 0) (start : Network NodeState) (before : World NodeState) (f : Flushing) (bytes : List ℕ) (n : ℕ) → MayTake keeps start before f bytes → MayTake keeps start before f (drop n bytes)
+may_take_rest keeps start before f bytes n M = record {
+  port = M.port;
+  confirmed = M.confirmed;
+  number = M.number;
+  outputs = M.outputs;
+  taken = M.taken + n;
+  rest = ap (drop n) M.rest ∙ drop-drop n M.taken M.outputs;
+  shown = M.shown;
+}
 
 pub outputs_shown : (start : Network NodeState) (w : World NodeState) (b : BookValue) (port mark confirmed : ℕ) → IsAheadOf start w b → ShowsAll b port mark confirmed → mark ≡ w.mark
     → (number : ℕ) (bytes : List ℕ) → AreOutputs b port number bytes → AreShownIn start w port confirmed number bytes

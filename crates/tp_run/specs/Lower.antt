@@ -48,6 +48,7 @@ pub use Rattle.tp_work.specs.Turns.{Refused, Turned}
 pub use Rattle.tp_work.specs.declared.fault.TurnFault.{TurnFault}
 pub use Rattle.tp_work.specs.declared.start.TheConstants.{MAX_WORKERS}
 pub use Rattle.tp_work.specs.declared.turn.Turn.{Turn}
+pub use Rattle.tp_flush.specs.Ahead.{IsAheadOf}
 pub use Rattle.tp_flush.specs.All.{AreAll}
 pub use Rattle.tp_flush.specs.Due.{is_due}
 pub use Rattle.tp_flush.specs.Flushing.{Flushing, IsSameProcess, Walked, position}

@@ -1,6 +1,6 @@
 -- Which outputs a run printed, by its journal.
-use Rattle.std.specs.Prelude.{◌≡◌, ◌≤◌, ◌⊎◌, ℕ, List, [], get_or, take, Some, Result}
-use Rattle.tp_run.specs.Lower.{Entry, NodeState, t414, Network, Port, after, LeavesOnly, State, moment, device_areas, World, RecoversTo, Flushing}
+use Rattle.std.specs.Prelude.{◌≡◌, ◌≤◌, ◌⊎◌, ℕ, List, [], get_or, take, drop, Some, Result}
+use Rattle.tp_run.specs.Lower.{Entry, NodeState, t414, Network, Port, after, LeavesOnly, State, moment, device_areas, World, RecoversTo, Began, Flushing}
 use Rattle.tp_run.specs.declared.fault.RunFault.{RunFault}
 use Rattle.tp_run.specs.Outlet.{OutletValue}
 use Rattle.tp_run.specs.Prints.{MayBeSilent, PrintsAt}
@@ -19,6 +19,17 @@ pub record LeadsToOutputs (start : Network NodeState) (journal : List Entry) (nu
 -- The outputs come from entries of a world's journal, and all these entries are below its mark.
 abbrev pub AreShownIn : Network NodeState → World NodeState → ℕ → ℕ → ℕ → List ℕ → Type 0
 AreShownIn start w port confirmed number outputs = (number ≤ w.mark) × LeadsToOutputs start w.journal number port confirmed outputs
+
+-- Bytes that an outlet may be called for: the last ones of a port's outputs that nobody has confirmed. They come from entries of the flusher's journal
+-- that are below its mark, so no crash takes them back.
+pub record MayTake (keeps : Type 0) (start : Network NodeState) (before : World NodeState) (f : Flushing) (bytes : List ℕ) : Type 0 where
+  pub port : ℕ
+  pub confirmed : ℕ
+  pub number : ℕ
+  pub outputs : List ℕ
+  pub taken : ℕ
+  pub rest : bytes ≡ drop taken outputs
+  pub shown : keeps → Began start before f.opened → AreShownIn start f.world port confirmed number outputs
 
 -- What was printed, by the flusher's journal. The first `least` entries lead to a network in which the port has some outputs after the confirmed
 -- ones. As many of these were printed as the answer says, the first ones first. Each call of the outlet was for them, while the device was in the

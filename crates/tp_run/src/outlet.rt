@@ -3,6 +3,7 @@
 ghost use Rattle.std.specs.Prelude.{◌≡◌, ◌<◌, ◌↔◌, [], ◌∷◌, length, IfOk};
 ghost use Rattle.tp_run.specs.Lower.{WritesAtMost, WriteAppends, error_kind};
 ghost use Rattle.tp_run.specs.Outlet.{CallsMore, OutletValue, unnoted};
+ghost use Rattle.tp_run.specs.Shown.{MayTake};
 
 use std::io;
 use std::io::{ErrorKind, Write};
@@ -24,12 +25,14 @@ pub trait Outlet {
     /// The bytes that the outlet has taken, and the calls that it got. `None` says that nothing is known.
     ghost value: { Self → OutletValue };
 
-    /// Takes some of these bytes, from the first one on, and answers how many; or takes none, and says why.
+    /// Takes some of these bytes, from the first one on, and answers how many; or takes none, and says why. The caller proves that no crash takes them
+    /// back.
     fn print<J: Naming, D: Disk>(
         &mut self,
         flusher: &Flusher<J, D>,
         bytes: &[u8],
     ) -> Result<usize, OutletFault>
+        requires shown { MayTake D.keeps J.formatted J.before flusher.now bytes.now }
         ensures some { 0 < length bytes.now → IfOk result (λ count. 0 < count) }
         ensures few { WritesAtMost result bytes.now }
         ensures takes { WriteAppends (value self.old).taken (value self.new).taken result bytes.now }

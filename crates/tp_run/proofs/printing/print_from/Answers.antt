@@ -3,8 +3,18 @@ use Rattle.std.specs.Prelude.{IfOk}
 use Rattle.tp_run.proofs.Lower.{next_in_book, port_in, shown_of}
 use Rattle.tp_run.specs.Output.{AreOutputs, IsForOutput, ShowsAll}
 use Rattle.tp_run.specs.Prints.{ComesSilent, MayBeSilent}
-use Rattle.tp_run.proofs.Shown.{are_outputs, if_made, output_like, printed_of}
+use Rattle.tp_run.proofs.Shown.{are_outputs, if_made, may_take_all, output_like, printed_of}
 use Rattle.tp_run.proofs.printing.print_from.Goals as goal
+
+pub print_shown-requires-clause-shown : goal.print_shown-requires-clause-shown
+print_shown-requires-clause-shown g c =
+    let b = c.args.held.now.book in
+    let port = c.args.outset.port in
+    may_take_all g.D.Disk.keeps g.J.Naming.formatted g.J.Naming.before c.args.flusher.now b port c.args.mark c.args.outset.confirmed c.requires.ahead c.requires.mark (record {
+      base = ap (λ d. (port_in d port).out_base) (sym c.book.ensures) ∙ c.in_ok-is_confirmed_in.ensures.confirmed;
+      all = subst (λ d. shown_of d port c.args.mark ≡ length (port_in d port).outputs) c.book-2.ensures c.in_ok-is_all_shown.ensures.all;
+      stored = subst (λ d. next_in_book d ≤ c.args.mark) c.book-2.ensures c.in_ok-is_all_shown.ensures.stored;
+    })
 
 pub returns-clause-receipt : goal.returns-clause-receipt
 returns-clause-receipt g c =

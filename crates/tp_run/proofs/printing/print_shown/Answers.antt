@@ -1,8 +1,18 @@
 use Rattle.std.proofs.Common.{◌≡◌, Err, length, rules, sym, ap, subst, ◌∙◌}
 use Rattle.tp_run.proofs.Lower.{marks_of, ReceiptValue, port_in, shown_from}
 use Rattle.tp_run.specs.Prints.{PrintsAt}
+use Rattle.tp_run.specs.Shown.{MayTake}
 use Rattle.tp_run.proofs.Shown.{fault_of, fault_says, printed_is, prints_at, prints_on}
 use Rattle.tp_run.proofs.printing.print_shown.Goals as goal
+
+pub put-requires : goal.put-requires
+put-requires g c =
+    let b = c.args.held.now.book in
+    let port = c.args.port in
+    let shown : c.shown.result.now ≡ shown_from b port c.args.mark (port_in b port).out_base =
+    c.shown.ensures.value ∙ ap (λ d. shown_from d port c.args.mark c.out_base-from.result) c.book-2.ensures
+    ∙ ap (shown_from b port c.args.mark) (c.out_base-from.ensures ∙ ap (λ d. (port_in d port).out_base) c.book.ensures) in
+    record { shown = subst (MayTake g.D.Disk.keeps g.J.Naming.formatted g.J.Naming.before c.args.flusher.now) (sym shown) c.requires.shown }
 
 -- the outputs that were to be printed
 pub returns-in_err-put-clause-printed : goal.returns-in_err-put-clause-printed

@@ -1,10 +1,23 @@
 use Rattle.std.proofs.Common.{rules, ◌≡◌, ℕ, ◌+◌, List, [], ◌∷◌, take, drop, drop-drop, Ok, Err, sym, ap, subst, ◌∙◌}
 use Rattle.tp_run.proofs.Lower.{take_rest, Appends, more_appended, kept_appended}
 use Rattle.tp_run.specs.Outlet.{CallsMore, rest_behind}
+use Rattle.tp_run.specs.Shown.{MayTake}
 use Rattle.tp_run.specs.declared.outlet.OutletFault.{OutletFault}
 use Rattle.tp_run.proofs.Called.{CalledFor, called_on, some_left, was_called}
+use Rattle.tp_run.proofs.Shown.{may_take_rest}
 use Rattle.tp_run.proofs.printing.write_front.Goals.{in-Ok, in-Err-Interrupted}
 use Rattle.tp_run.proofs.printing.write_front.Goals as goal
+
+-- each call is for the rest of them
+pub print-requires : goal.print-requires
+print-requires g c =
+    let bytes = c.args.bytes.now in
+    let f = c.args.flusher.now in
+    record {
+      shown =
+          subst (MayTake g.D.Disk.keeps g.J.Naming.formatted g.J.Naming.before f) (sym (take_rest bytes c.loop.written))
+          (may_take_rest g.D.Disk.keeps g.J.Naming.formatted g.J.Naming.before f bytes c.loop.written c.requires.shown);
+    }
 
 pub loop-preserved : goal.loop-preserved
 loop-preserved g c =

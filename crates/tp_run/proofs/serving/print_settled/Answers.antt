@@ -1,8 +1,19 @@
-use Rattle.std.proofs.Common.{sym, subst}
-use Rattle.tp_run.proofs.Lower.{Stage, IsAheadOf, Flushing}
+use Rattle.std.proofs.Common.{sym, ap, subst, ◌∙◌}
+use Rattle.tp_run.proofs.Lower.{Stage, Began, IsAheadOf, Flushing}
 use Rattle.tp_run.specs.Output.{PrintedOf}
 use Rattle.tp_run.proofs.Shown.{may_show, output_shown}
 use Rattle.tp_run.proofs.serving.print_settled.Goals as goal
+
+pub print_from-requires-clause-mark : goal.print_from-requires-clause-mark
+print_from-requires-clause-mark g c = c.requires.mark ∙ ap (λ (f : Flushing). f.world.mark) (sym c.settle_book.ensures.same.0)
+
+pub print_from-requires-clause-ahead : goal.print_from-requires-clause-ahead
+print_from-requires-clause-ahead g c k began =
+    let start = g.J.Naming.formatted in
+    let same = c.settle_book.ensures.same in
+    let first = subst (λ (f : Flushing). Began start g.J.Naming.before f.opened) same.0 began in
+    subst (λ (f : Flushing). IsAheadOf start f.world c.settle_book.new.held.book) (sym same.0)
+    (subst (λ (stage : Stage). IsAheadOf start c.args.flusher.now.world stage.book) (sym same.1) (c.settle_book.ensures.ahead k first))
 
 pub returns-clause-shown : goal.returns-clause-shown
 returns-clause-shown g c k began =
