@@ -1,13 +1,14 @@
 -- What proofs here name of the crates below.
 pub use Rattle.std.proofs.lemmas.Bool.{le-leb, le-ltb, lt-leb, true≢false}
-pub use Rattle.std.proofs.lemmas.List.{length-map, length-take, length-take-le, take-take, take_all, take_rest}
+pub use Rattle.std.proofs.lemmas.List.{length-map, length-take, length-take-le, take-append-le, take-take, take_all, take_rest}
 pub use Rattle.std.proofs.lemmas.List.Sums.{count_by-le-length}
 pub use Rattle.std.proofs.lemmas.Result.{IfOk-weaker}
 pub use Rattle.std.specs.Io.KnownBytes.{Appends}
 pub use Rattle.std.specs.List.{AllByRecursion, enumerate_from}
+pub use Rattle.tp_model.specs.Areas.{next_number}
 pub use Rattle.tp_model.specs.DeviceAreas.{device_areas}
 pub use Rattle.tp_model.specs.Disk.{MayBe, Moment}
-pub use Rattle.tp_model.specs.DiskHistory.{State, moment}
+pub use Rattle.tp_model.specs.DiskHistory.{LeavesOnly, State, moment}
 pub use Rattle.tp_model.specs.Head.{Head}
 pub use Rattle.tp_model.specs.Journal.{is_full_for_snapshot}
 pub use Rattle.tp_model.specs.Markers.{plain_network}
@@ -26,6 +27,7 @@ pub use Rattle.tp_model.specs.WriteOrder.{Broken, Position, Resting}
 pub use Rattle.tp_model.specs.declared.entry.Entry.{Entry}
 pub use Rattle.tp_model.specs.declared.entry.Entry.TheVariants.{Confirm, HostIn}
 pub use Rattle.tp_model.specs.declared.opening.OpenFault.{OpenFault}
+pub use Rattle.tp_law_network.proofs.Acknowledged.{GoesOn, run_goes_on}
 pub use Rattle.tp_law_network.proofs.Walks.{chain_leads}
 pub use Rattle.tp_node.specs.declared.rest.Rest.{Rest}
 pub use Rattle.tp_node.specs.declared.rest.Rest.TheVariants.{Busy, Halted, Quiet}
@@ -38,7 +40,7 @@ pub use Rattle.tp_book.specs.Host.{accepted_of, after_confirm, after_inputs, por
 pub use Rattle.tp_book.specs.Opened.{now_of, opened_book}
 pub use Rattle.tp_book.specs.Refusals.{is_journal_full}
 pub use Rattle.tp_book.specs.declared.state.NetState.{NetState}
-pub use Rattle.tp_disk.proofs.Calls.{started, weaker}
+pub use Rattle.tp_disk.proofs.Calls.{and_then, started, weaker}
 pub use Rattle.tp_area.specs.declared.place.Place.{Place}
 pub use Rattle.tp_recover.specs.Reading.{LeavesNothingNew, has_read}
 pub use Rattle.tp_recover.specs.declared.unopened.Unopened.{Unopened}

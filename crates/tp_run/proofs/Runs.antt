@@ -1,7 +1,7 @@
 -- What runs leave of a device.
-use Rattle.std.proofs.Common.{◌≡◌, ℕ, ◌≤◌, inl, inr, List, [], Option, Result, Ok, Err, refl, ap, subst, ◌∙◌, arith}
+use Rattle.std.proofs.Common.{◌≡◌, ℕ, ◌≤◌, ◌⊎◌, inl, inr, List, [], Option, Result, Ok, Err, refl, ap, subst, ◌∙◌, arith}
 use Rattle.std.specs.Prelude.{IfOk}
-use Rattle.tp_run.proofs.Lower.{IfOk-weaker, Entry, NodeState, t414, Network, MayBe, State, device_areas, Opened, held_of, verdict, World, reopened, RecoversTo, started, LeavesNothingNew, AreBelow, Began, Flushing, Walked, Follows, RecoversWith, SlipsStand, number_is, read_alone, read_first, stored_follows, walked_either, walked_follows}
+use Rattle.tp_run.proofs.Lower.{IfOk-weaker, Entry, NodeState, t414, Network, MayBe, State, device_areas, Opened, held_of, verdict, World, reopened, RecoversTo, and_then, started, weaker, LeavesNothingNew, AreBelow, Began, Flushing, Walked, Follows, RecoversWith, SlipsStand, number_is, read_alone, read_first, stored_follows, walked_either, walked_follows}
 use Rattle.tp_run.specs.declared.fault.RunFault.{RunFault}
 use Rattle.tp_run.specs.declared.job.Job.{Job}
 use Rattle.tp_run.specs.Input.{input_slips}
@@ -9,7 +9,7 @@ use Rattle.tp_run.specs.Outset.{outset_in}
 use Rattle.tp_run.specs.Prints.{ComesSilent}
 use Rattle.tp_run.specs.Outlet.{OutletValue}
 use Rattle.tp_run.specs.Ran.{Carried, IsPrinted, Ran, RanInto, Settled}
-use Rattle.tp_run.specs.Shown.{HasPrinted, MayPrint}
+use Rattle.tp_run.specs.Shown.{HasPrinted, IsUpTo, MayPrint}
 
 pub if_both : {A E : Type 0} (r : Result A E) (P Q R : A → Type 0) → ((x : A) → P x → Q x → R x) → IfOk r P → IfOk r Q → IfOk r R
 if_both (Ok x) P Q R turn p q = turn x p q
@@ -34,6 +34,7 @@ printed_in start before opened old new port was now result reads first H = recor
   printed = H.printed.prints;
   there = H.there;
   later = H.later;
+  before = weaker old.state H.there (IsUpTo start new.world.journal H.number) _ (λ left upto. inr upto) H.before;
   since = H.since;
 }
 
@@ -106,6 +107,9 @@ printed_since start journal port was now result old read new L same P = record {
   printed = P.printed;
   there = P.there;
   later = let first = L.later in let then = P.later in omega (arith, first, then);
+  before =
+      and_then old read P.there _ (weaker old read (MayBe old.now) _ (λ left may. inl may) L)
+      (weaker read P.there (λ left. MayBe read.now left ⊎ IsUpTo start journal P.number left) _ (λ left either. elim either [ inl may ↦ inl (L.each left (inr may)) | inr upto ↦ inr upto ]) P.before);
   since = P.since;
 }
 

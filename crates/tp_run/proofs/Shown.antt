@@ -1,12 +1,12 @@
 -- What is printed: outputs of a port in a book, and in the network to which the flusher's journal leads.
 use Rattle.std.proofs.Common.{◌≡◌, ℕ, ◌+◌, ◌-◌, ◌≤◌, inl, inr, Bool, true, false, cond, List, [], ◌∷◌, ◌++◌, length, take, drop, drop-drop, Option, Result, Ok, Err, refl, sym, ap, subst, ◌∙◌, arith, append-nil, length-append}
 use Rattle.std.specs.Prelude.{map, nat_le, IfOk}
-use Rattle.tp_run.proofs.Lower.{Began, enumerate_from, take_all, take-take, Appends, Entry, Confirm, NodeState, t414, Network, plain_network, after, State, moment, device_areas, World, RecoversTo, weaker, chain_leads, BookValue, next_in_book, world_of, marks_of, after_confirm, port_in, shown_from, shown_of, shown_upto_of, with_confirmed, confirm_entries, ReceiptValue, IsFor, IsAheadOf, Reached, Flushing, Walked, reached_then, walked_nowhere, walked_recovers, walked_stays, recovers_less}
+use Rattle.tp_run.proofs.Lower.{Began, enumerate_from, take-append-le, take_all, take-take, Appends, Entry, Confirm, NodeState, t414, Network, plain_network, after, LeavesOnly, State, moment, device_areas, next_number, World, RecoversTo, and_then, weaker, chain_leads, GoesOn, run_goes_on, BookValue, next_in_book, world_of, marks_of, after_confirm, port_in, shown_from, shown_of, shown_upto_of, with_confirmed, confirm_entries, ReceiptValue, IsFor, IsAheadOf, Reached, Flushing, Walked, reached_then, walked_nowhere, walked_recovers, walked_stays, recovers_less}
 use Rattle.tp_run.specs.declared.fault.RunFault.{RunFault}
 use Rattle.tp_run.specs.Output.{AreOutputs, AreShownBytes, IsForOutput, PrintedOf, ShowsAll, confirms}
 use Rattle.tp_run.specs.Outlet.{OutletValue, WasCalled}
 use Rattle.tp_run.specs.Prints.{MayBeSilent, PrintsAt, PrintsOf, PrintsSo, TellsAllPrinted}
-use Rattle.tp_run.specs.Shown.{AreShownIn, MayPrint, MayShow, MayTake}
+use Rattle.tp_run.specs.Shown.{AreShownIn, IsUpTo, MayPrint, MayShow, MayTake}
 use Rattle.tp_run.proofs.Slips.{confirms_shown}
 
 -- ## In the book
@@ -138,6 +138,7 @@ may_show start w b port mark confirmed there was now r A at (inr (S, F)) =
       number = next_in_book b;
       few = shows.0;
       behind = omega (arith, many, long, marked);
+      whole = omega (arith, many, long);
       outputs = (port_in b port).outputs;
       shows = shows.1;
       printed = F;
@@ -174,6 +175,39 @@ shows_on start a b R W port confirmed number outputs (few, S) =
 walked_later : (a b : Flushing) → Walked a b → moment a.state ≤ moment b.state
 walked_later a b W = let grew = ap length W.past in let long = length-append a.state.past (map (λ (u : World NodeState). u.disk) W.worlds) in omega (arith, grew, long)
 
+journal_grew : (a b : Flushing) → Walked a b → GoesOn a.world.journal b.world.journal
+journal_grew a b W = let L = chain_leads t414 device_areas a.world b.world W.worlds W.chain in run_goes_on t414 device_areas L.events a.world b.world L.unopened L.run
+
+length_grew : (a b : Flushing) → Walked a b → length a.world.journal ≤ length b.world.journal
+length_grew a b W = let more = journal_grew a b W in let grew = ap length more.1 in let long = length-append a.world.journal more.0 in omega (arith, grew, long)
+
+-- what opens to a prefix of a journal opens to the same prefix of a later one
+up_to_later : (start : Network NodeState) (b c : Flushing) → Walked b c → (number least : ℕ) → length b.world.journal ≤ number → (left : List ℕ) → RecoversTo t414 device_areas start b.world.journal least left
+    → IsUpTo start c.world.journal number left
+up_to_later start b c V number least whole left r =
+    let more = journal_grew b c V in
+    let longer = length_grew b c V in
+    let n = next_number r.held in
+    let most = r.no_more in
+    let front : take n c.world.journal ≡ take n b.world.journal = ap (take n) more.1 ∙ take-append-le n b.world.journal more.0 most in record {
+      recovers = record {
+        held = r.held;
+        reads = r.reads;
+        now = r.now;
+        replayed = r.replayed;
+        exact = ap (after t414 start) front ∙ r.exact;
+        no_less = omega arith;
+        no_more = omega (arith, most, longer);
+      };
+      few = omega (arith, most, whole);
+    }
+
+-- so until then a crash leaves none of the entries that came later
+up_to : (start : Network NodeState) (a b c : Flushing) → Reached start a.world → Walked a b → Walked b c → (number : ℕ) → length b.world.journal ≤ number
+    → LeavesOnly a.state b.state (IsUpTo start c.world.journal number)
+up_to start a b c R W V number whole =
+    weaker a.state b.state (RecoversTo t414 device_areas start b.world.journal a.world.mark) _ (λ left r. up_to_later start b c V number a.world.mark whole left r) (walked_recovers start a b R W)
+
 -- a fault, and an answer that isn't one
 abbrev pub fault_of : (A : Type 0) → RunFault → Result A RunFault
 fault_of A fault = Err fault
@@ -207,14 +241,18 @@ may_print start old at new R W V port confirmed was now r s says (inr H) =
     let reached = walked_reached start old at R W in
     let up = (walked_stays start old at R W).0 in
     let behind = H.behind in
+    let whole = H.whole in
+    let grew = length_grew old at W in
     inr (record {
       number = H.number;
       behind = omega (arith, up, behind);
+      whole = omega (arith, grew, whole);
       outputs = H.outputs;
       shows = (shows_on start at new reached V port confirmed H.number H.outputs (H.few, H.shows)).1;
       there = at.state;
       printed = prints_at at.state was now H.outputs r s says H.printed;
       later = walked_later old at W;
+      before = up_to start old at new R W V H.number whole;
       since =
           weaker at.state new.state (RecoversTo t414 device_areas start new.world.journal at.world.mark) _
           (λ left r. recovers_less start new.world.journal at.world.mark H.number left H.few r) (walked_recovers start at new reached V);
@@ -226,21 +264,25 @@ pub may_print_last : {A B : Type 0} (start : Network NodeState) (old at : Flushi
 may_print_last start old at R W port confirmed was now r s says shown = may_print start old at at R W (walked_nowhere at W.now) port confirmed was now r s says shown
 
 -- and from an earlier one on
-pub may_print_since : {A : Type 0} (start : Network NodeState) (first old new : Flushing) → Reached start first.world → Walked first old → (port confirmed : ℕ) (was now : OutletValue) (r : Result A RunFault)
+pub may_print_since : {A : Type 0} (start : Network NodeState) (first old new : Flushing) → Reached start first.world → Walked first old → Walked old new → (port confirmed : ℕ) (was now : OutletValue) (r : Result A RunFault)
     → MayPrint start old new port confirmed was now r → MayPrint start first new port confirmed was now r
-may_print_since start first old new R W port confirmed was now r (inl same) = inl same
-may_print_since start first old new R W port confirmed was now r (inr H) =
+may_print_since start first old new R W V port confirmed was now r (inl same) = inl same
+may_print_since start first old new R W V port confirmed was now r (inr H) =
     let up = walked_later first old W in
     let later = H.later in
     let raised = (walked_stays start first old R W).0 in
     let behind = H.behind in
+    let whole = H.whole in
+    let grew = length_grew first old W in
     inr (record {
       number = H.number;
       behind = omega (arith, raised, behind);
+      whole = omega (arith, grew, whole);
       outputs = H.outputs;
       shows = H.shows;
       there = H.there;
       printed = H.printed;
       later = omega (arith, up, later);
+      before = and_then first.state old.state H.there _ (up_to start first old new R W V H.number whole) H.before;
       since = H.since;
     })

@@ -12,7 +12,7 @@ use Rattle.tp_run.specs.Outlet.{OutletValue, WasCalled}
 use Rattle.tp_run.specs.Outset.{outset_in}
 use Rattle.tp_run.specs.Output.{confirms}
 use Rattle.tp_run.specs.Prints.{MayBeSilent, PrintsSo}
-use Rattle.tp_run.specs.Shown.{LeadsToOutputs}
+use Rattle.tp_run.specs.Shown.{IsUpTo, LeadsToOutputs}
 
 -- the slip of the entry that confirms what a run printed, under this number; none if nothing was printed
 abbrev pub output_slips : Outset → ℕ → List ℕ → List (ℕ × Entry)
@@ -62,6 +62,8 @@ pub record Carried (start : Network NodeState) (journal : List Entry) (job : Job
 --   opening. These entries include all that the device had at the opening.
 -- - The first of these outputs were printed: fewer than all if the output can't be written, else all.
 -- - They were printed while the device was in the state `there`. Whatever a crash leaves from then on has each of these entries.
+-- - Whatever a crash leaves up to then has none of the later entries, so none that confirms these outputs. Or a crash just before the run might have
+--   left it, too.
 pub record IsPrinted (start : Network NodeState) (journal : List Entry) (port : ℕ) (was now : Option (List ℕ)) (result : Result ℕ RunFault) (old new : State) : Type 0 where
   pub opened : Opened
   pub reads : verdict old.now.bytes ≡ Ok opened
@@ -72,6 +74,7 @@ pub record IsPrinted (start : Network NodeState) (journal : List Entry) (port : 
   pub printed : PrintsSo result was now outputs
   pub there : State
   pub later : moment old ≤ moment there
+  pub before : LeavesOnly old there (λ left. MayBe old.now left ⊎ IsUpTo start journal number left)
   pub since : LeavesOnly there new (RecoversTo t414 device_areas start journal number)
 
 -- What a run leaves, however it ended.
@@ -80,7 +83,7 @@ pub record IsPrinted (start : Network NodeState) (journal : List Entry) (port : 
 -- - After a finished run that prefix also has each entry below the answered number. Among them are those of the input and the one that confirms what
 --   was printed. All others since the opening were made by the workers' turns.
 -- - Perhaps nothing was printed, and the answer allows that. Otherwise as many outputs of the port were printed as the answer says. Whatever a crash
---   leaves has the entries that lead to them.
+--   leaves after that has the entries that lead to them, and whatever it leaves before that has none of the later ones.
 pub record Ran (start : Network NodeState) (job : Job) (input : List ℕ) (was now : Option (List ℕ)) (result : Result ℕ RunFault) (old new : State) : Type 0 where
   pub journal : List Entry
   pub leaves : LeavesOnly old new (λ left. MayBe old.now left ⊎ Follows start journal 0 old.now.bytes left)

@@ -1,6 +1,6 @@
 -- Which outputs a run printed, by its journal.
-use Rattle.std.specs.Prelude.{◌≡◌, ◌≤◌, ◌⊎◌, ℕ, List, [], get_or, take, drop, Some, Result}
-use Rattle.tp_run.specs.Lower.{Entry, NodeState, t414, Network, Port, after, LeavesOnly, State, moment, device_areas, World, RecoversTo, Began, Flushing}
+use Rattle.std.specs.Prelude.{◌≡◌, ◌≤◌, ◌⊎◌, ℕ, List, [], get_or, length, take, drop, Some, Result}
+use Rattle.tp_run.specs.Lower.{Entry, NodeState, t414, Network, Port, after, LeavesOnly, State, moment, device_areas, next_number, World, RecoversTo, Began, Flushing}
 use Rattle.tp_run.specs.declared.fault.RunFault.{RunFault}
 use Rattle.tp_run.specs.Outlet.{OutletValue}
 use Rattle.tp_run.specs.Prints.{MayBeSilent, PrintsAt}
@@ -31,13 +31,19 @@ pub record MayTake (keeps : Type 0) (start : Network NodeState) (before : World 
   pub rest : bytes ≡ drop taken outputs
   pub shown : keeps → Began start before f.opened → AreShownIn start f.world port confirmed number outputs
 
--- What was printed, by the flusher's journal. The first `least` entries lead to a network in which the port has some outputs after the confirmed
--- ones. As many of these were printed as the answer says, the first ones first. Each call of the outlet was for them, while the device was in the
--- state `there`.
+-- Bytes open to the network that a prefix of the journal leads to, and the prefix has at most its first `number` entries.
+pub record IsUpTo (start : Network NodeState) (journal : List Entry) (number : ℕ) (left : List ℕ) : Type 0 where
+  pub recovers : RecoversTo t414 device_areas start journal 0 left
+  pub few : next_number recovers.held ≤ number
+
+-- What was printed, by the flusher's journal, which has no more than `least` entries. The first `least` ones lead to a network in which the port has
+-- some outputs after the confirmed ones. As many of these were printed as the answer says, the first ones first. Each call of the outlet was for
+-- them, while the device was in the state `there`.
 pub record HasShown {A : Type 0} (start : Network NodeState) (journal : List Entry) (least port confirmed : ℕ) (there : State) (was now : OutletValue) (r : Result A RunFault) : Type 0 where
   pub number : ℕ
   pub few : number ≤ least
   pub behind : least ≤ number
+  pub whole : length journal ≤ number
   pub outputs : List ℕ
   pub shows : LeadsToOutputs start journal number port confirmed outputs
   pub printed : PrintsAt there r was now outputs
@@ -46,17 +52,19 @@ pub record HasShown {A : Type 0} (start : Network NodeState) (journal : List Ent
 abbrev pub MayShow : {A : Type 0} → Network NodeState → List Entry → ℕ → ℕ → ℕ → State → OutletValue → OutletValue → Result A RunFault → Type 0
 MayShow start journal least port confirmed there was now r = ((now ≡ was) × MayBeSilent r) ⊎ HasShown start journal least port confirmed there was now r
 
--- What was printed while a flusher went on. Some entries, at least those below the flusher's mark at first, lead to a network in which the port has
--- some outputs after the confirmed ones. As many of these were printed as the answer says, the first ones first. Whatever a crash leaves from then on
--- has each of these entries.
+-- What was printed while a flusher went on. Some entries, at least those that its journal had at first and those below its mark, lead to a network in
+-- which the port has some outputs after the confirmed ones. As many of these were printed as the answer says, the first ones first. Whatever a crash
+-- leaves up to then has none of the later entries, and whatever it leaves from then on has each of these entries.
 pub record HasPrinted {A : Type 0} (start : Network NodeState) (old new : Flushing) (port confirmed : ℕ) (was now : OutletValue) (r : Result A RunFault) : Type 0 where
   pub number : ℕ
   pub behind : old.world.mark ≤ number
+  pub whole : length old.world.journal ≤ number
   pub outputs : List ℕ
   pub shows : LeadsToOutputs start new.world.journal number port confirmed outputs
   pub there : State
   pub printed : PrintsAt there r was now outputs
   pub later : moment old.state ≤ moment there
+  pub before : LeavesOnly old.state there (IsUpTo start new.world.journal number)
   pub since : LeavesOnly there new.state (RecoversTo t414 device_areas start new.world.journal number)
 
 -- what may be printed: as `HasPrinted` says; or nothing, without a call, if the answer allows that

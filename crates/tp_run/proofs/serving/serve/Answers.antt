@@ -28,9 +28,9 @@ returns-clause-settled g c k began =
 
 pub returns-clause-shown : goal.returns-clause-shown
 returns-clause-shown g c k began =
-    may_print_since g.J.Naming.formatted c.args.flusher c.work-flusher.result.0 c.finish-done.new.flusher (c.known.ensures.reached k began) (c.work-flusher.ensures.walks k began) c.args.outset.port c.args.outset.confirmed
-    (g.O.Outlet.value c.args.out.now) (g.O.Outlet.value c.finish-done.new.out) c.finish-done.result
-    (c.finish-done.ensures.shown k (subst (Began g.J.Naming.formatted g.J.Naming.before) (sym c.work-flusher.ensures.process.opened) began))
+    let there = subst (Began g.J.Naming.formatted g.J.Naming.before) (sym c.work-flusher.ensures.process.opened) began in
+    may_print_since g.J.Naming.formatted c.args.flusher c.work-flusher.result.0 c.finish-done.new.flusher (c.known.ensures.reached k began) (c.work-flusher.ensures.walks k began)
+    (c.finish-done.ensures.walks k there) c.args.outset.port c.args.outset.confirmed (g.O.Outlet.value c.args.out.now) (g.O.Outlet.value c.finish-done.new.out) c.finish-done.result (c.finish-done.ensures.shown k there)
 
 -- ## Who made what
 
