@@ -1,13 +1,14 @@
 -- What is left of a device that was compacted.
-use Rattle.std.proofs.Common.{◌≡◌, ◌≤◌, List, [], ℕ, Bool, false, inl, inr, Result, Ok, Err, sym, ap, subst, ◌∙◌, arith}
+use Rattle.std.proofs.Common.{◌≡◌, ◌≤◌, List, [], ℕ, Bool, false, inl, inr, drop, Result, Ok, Err, sym, ap, subst, ◌∙◌, arith}
 use Rattle.std.specs.Prelude.{IfOk}
-use Rattle.tp_run.proofs.Lower.{IfOk-weaker, OpenFault, NodeState, Network, MayBe, State, Opened, held_of, next_of, verdict, World, reopened, LeavesNothingNew, Began, Reached, Flushing, Walked, position, Follows, walked_stays, number_is, read_alone, read_first, stored_follows, walked_either, walked_follows, FlushFault}
+use Rattle.tp_run.proofs.Lower.{IfOk-weaker, OpenFault, NodeState, Network, MayBe, State, Opened, held_of, next_of, verdict, World, reopened, LeavesNothingNew, handed, Began, Reached, Flushing, Walked, position, Follows, walked_stays, number_is, read_alone, read_first, stored_follows, walked_either, walked_follows, FlushFault}
 use Rattle.tp_run.specs.declared.compacting.Compaction.{Compaction}
 use Rattle.tp_run.specs.declared.compacting.CompactFault.{CompactFault}
 use Rattle.tp_run.specs.declared.compacting.CompactFault.TheVariants.{Opening, NoGeneration, DeviceFailed, NotWhole, Memory}
 use Rattle.tp_flush.specs.declared.fault.FlushFault.TheVariants as flush
 use Rattle.tp_flush.specs.Ends.{Ended}
 use Rattle.tp_run.proofs.Failures.{refused_as}
+use Rattle.tp_run.proofs.HandedOver.{handed_of_none}
 use Rattle.tp_run.specs.Compacted.{Compacted, IsBeginFault, SaysLast, StaysUnopened, flush_fault, is_failure_in}
 
 -- if a flusher walks on, its mark is at least the number that the device's next entry had
@@ -19,14 +20,14 @@ mark_grew start before opened old new there first W =
     omega (arith, up, at)
 
 -- bytes open to one network
-one_opened : (given : Result Opened OpenFault) (one other : Opened) → given ≡ Ok one → given ≡ Ok other → one ≡ other
+pub one_opened : (given : Result Opened OpenFault) (one other : Opened) → given ≡ Ok one → given ≡ Ok other → one ≡ other
 one_opened given one other is too = cc
 
 -- a device that was opened, and whose flusher walked on from there
 pub walked_compacted : (start : Network NodeState) (before : World NodeState) (opened : Opened) (old new : Flushing) (result : Result Compaction CompactFault) → Reached start old.world → Began start before old.state.now.bytes
     → verdict old.state.now.bytes ≡ Ok opened → old.world ≡ reopened before old.state.now.bytes (held_of opened) opened.now → Walked old new → IfOk result (λ done. done.next ≡ new.world.mark)
-    → Compacted start result old.state new.state
-walked_compacted start before opened old new result there began reads first W stored =
+    → handed (drop (next_of opened) new.world.journal) ≡ [] → Compacted start result old.state new.state
+walked_compacted start before opened old new result there began reads first W stored none =
     let bytes = old.state.now.bytes in record {
       journal = new.world.journal;
       leaves = walked_either start new.world.journal old.state new.state (walked_follows start before bytes opened began reads old new first W);
@@ -39,11 +40,13 @@ walked_compacted start before opened old new result there began reads first W st
           let grew = mark_grew start before opened old new there first W in
           subst (λ (o : Opened). next_of o ≤ done.next) (one_opened (verdict bytes) opened other reads is) (omega (arith, same, grew)))
           stored;
+      untouched = λ other is. subst (λ (o : Opened). handed (drop (next_of o) new.world.journal) ≡ []) (one_opened (verdict bytes) opened other reads is) none;
     }
 
 -- a device that was only read
 pub unwritten_compacted : (start : Network NodeState) (fault : CompactFault) (old new : State) → LeavesNothingNew old new → Compacted start (Err fault) old new
-unwritten_compacted start fault old new L = record { journal = []; leaves = read_alone start [] old new L; stored = tt; no_fewer = tt }
+unwritten_compacted start fault old new L =
+    record { journal = []; leaves = read_alone start [] old new L; stored = tt; no_fewer = tt; untouched = λ opened is. handed_of_none (next_of opened) }
 
 -- a device was read, which left its bytes as they are, and was then written
 pub opened_compacted : (start : Network NodeState) (result : Result Compaction CompactFault) (old read new : State) → LeavesNothingNew old read → read.now.bytes ≡ old.now.bytes → Compacted start result read new
@@ -57,6 +60,7 @@ opened_compacted start result old read new L same R = record {
   no_fewer =
       IfOk-weaker result (λ done. (opened : Opened) → verdict read.now.bytes ≡ Ok opened → next_of opened ≤ done.next) _
       (λ done all opened is. all opened (subst (λ bytes. verdict bytes ≡ Ok opened) (sym same) is)) R.no_fewer;
+  untouched = λ opened is. R.untouched opened (subst (λ bytes. verdict bytes ≡ Ok opened) (sym same) is);
 }
 
 -- an answer that tells whether a generation was left isn't the answer for a device that didn't open

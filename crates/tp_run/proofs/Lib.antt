@@ -3,6 +3,7 @@ pub mod Gathered
 pub mod Answered
 pub mod Failures
 pub mod Faults
+pub mod HandedOver
 pub mod Made
 pub mod Called
 pub mod Runs

@@ -1,6 +1,6 @@
 -- What proofs here name of the crates below.
 pub use Rattle.std.proofs.lemmas.Bool.{le-leb, le-ltb, lt-leb, true≢false}
-pub use Rattle.std.proofs.lemmas.List.{length-map, length-take, length-take-le, take-append-le, take-take, take_all, take_rest}
+pub use Rattle.std.proofs.lemmas.List.{drop_all, length-map, length-take, length-take-le, take-append-le, take-take, take_all, take_rest}
 pub use Rattle.std.proofs.lemmas.List.Sums.{count_by-le-length}
 pub use Rattle.std.proofs.lemmas.Result.{IfOk-weaker}
 pub use Rattle.std.specs.Io.KnownBytes.{Appends}
@@ -47,6 +47,7 @@ pub use Rattle.tp_recover.specs.declared.unopened.Unopened.{Unopened}
 pub use Rattle.tp_ready.specs.Seen.{RaiserValue}
 pub use Rattle.tp_shared.proofs.Writing.{enumerated_below}
 pub use Rattle.tp_shared.specs.Below.{AreBelow}
+pub use Rattle.tp_shared.specs.HandedIn.{handed}
 pub use Rattle.tp_shared.specs.Parted.{PartsValue}
 pub use Rattle.tp_shared.specs.Resting.{rest_in}
 pub use Rattle.tp_shared.specs.Seals.{Stage}
@@ -73,7 +74,7 @@ pub use Rattle.tp_flush.specs.Flushing.{Flushing, IsSameProcess, Walked, positio
 pub use Rattle.tp_flush.specs.Follows.{Follows}
 pub use Rattle.tp_flush.specs.Known.{Began, Reached}
 pub use Rattle.tp_flush.specs.Made.{IsMadeOf}
-pub use Rattle.tp_flush.specs.Settled.{RecoversWith, SlipsStand}
+pub use Rattle.tp_flush.specs.Settled.{HasFront, RecoversWith, SlipsStand}
 pub use Rattle.tp_flush.specs.declared.fault.FlushFault.{FlushFault}
 pub use Rattle.tp_flush.specs.declared.fault.FlushFault.TheVariants.{AreaFull, DeviceFailed, Memory, StoreBroken}
 pub use Rattle.tp_stream_files.proofs.Fronts.{kept_appended, more_appended}

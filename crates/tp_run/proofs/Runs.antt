@@ -1,15 +1,18 @@
 -- What runs leave of a device.
-use Rattle.std.proofs.Common.{◌≡◌, ℕ, ◌≤◌, ◌⊎◌, inl, inr, List, [], Option, Result, Ok, Err, refl, ap, subst, ◌∙◌, arith}
+use Rattle.std.proofs.Common.{◌≡◌, ℕ, ◌≤◌, ◌⊎◌, inl, inr, List, [], Option, Result, Ok, Err, refl, sym, ap, subst, ◌∙◌, arith}
 use Rattle.std.specs.Prelude.{IfOk}
 use Rattle.tp_run.proofs.Lower.{IfOk-weaker, Entry, NodeState, t414, Network, MayBe, State, device_areas, Opened, held_of, verdict, World, reopened, RecoversTo, and_then, started, weaker, LeavesNothingNew, AreBelow, Began, Flushing, Walked, Follows, RecoversWith, SlipsStand, number_is, read_alone, read_first, stored_follows, walked_either, walked_follows}
 use Rattle.tp_run.specs.declared.fault.RunFault.{RunFault}
 use Rattle.tp_run.specs.declared.job.Job.{Job}
+use Rattle.tp_run.specs.HandedOver.{HandedOver}
 use Rattle.tp_run.specs.Input.{input_slips}
 use Rattle.tp_run.specs.Outset.{outset_in}
 use Rattle.tp_run.specs.Prints.{ComesSilent}
 use Rattle.tp_run.specs.Outlet.{OutletValue}
 use Rattle.tp_run.specs.Ran.{Carried, IsPrinted, Ran, RanInto, Settled}
 use Rattle.tp_run.specs.Shown.{HasPrinted, IsUpTo, MayPrint}
+use Rattle.tp_run.proofs.Compacts.{one_opened}
+use Rattle.tp_run.proofs.HandedOver.{unhanded}
 
 pub if_both : {A E : Type 0} (r : Result A E) (P Q R : A → Type 0) → ((x : A) → P x → Q x → R x) → IfOk r P → IfOk r Q → IfOk r R
 if_both (Ok x) P Q R turn p q = turn x p q
@@ -42,8 +45,9 @@ printed_in start before opened old new port was now result reads first H = recor
 pub served_ran : SlipsAreRecovered → (start : Network NodeState) (before : World NodeState) (opened : Opened) (job : Job) (input : List ℕ) (was now : OutletValue) (old new : Flushing) (result : Result ℕ RunFault)
     → Began start before old.state.now.bytes → verdict old.state.now.bytes ≡ Ok opened → old.world ≡ reopened before old.state.now.bytes (held_of opened) opened.now → Walked old new → IfOk result (λ next. next ≤ new.world.mark)
     → IfOk result (Settled start opened.cut job (outset_in opened job.port) (input_slips (outset_in opened job.port) input) was.taken now.taken new.world.journal)
-    → MayPrint start old new job.port (outset_in opened job.port).confirmed was now result → RanInto start job input was now result old.state new.state
-served_ran law start before opened job input was now old new result began reads first W stored settled shown =
+    → MayPrint start old new job.port (outset_in opened job.port).confirmed was now result → HandedOver start new.world.journal (outset_in opened job.port) input was.taken now.taken
+    → RanInto start job input was now result old.state new.state
+served_ran law start before opened job input was now old new result began reads first W stored settled shown handed =
     let bytes = old.state.now.bytes in
     let journal = new.world.journal in
     let less : (next : ℕ) → next ≤ new.world.mark → (left : List ℕ) → MayBe new.state.now left → Follows start journal next bytes left =
@@ -72,6 +76,7 @@ served_ran law start before opened job input was now old new result began reads 
           | inl same ↦ inl (ap (λ (v : OutletValue). v.taken) same.0, same.1)
           | inr H ↦ inr (printed_in start before opened old new job.port was now result reads first H)
         ];
+        handed = λ other is. subst (λ (o : Opened). HandedOver start journal (outset_in o job.port) input was.taken now.taken) (one_opened (verdict bytes) opened other reads is) handed;
       };
       called = elim shown [
         | inl same ↦ inl same.0
@@ -86,13 +91,26 @@ ran_silent start job input was result old new R = record { ran = R; called = inl
 
 -- a device that no call was made of
 pub still_ran : (start : Network NodeState) (job : Job) (input : List ℕ) (was : Option (List ℕ)) (fault : RunFault) (s : State) → ComesSilent fault → Ran start job input was was (Err fault) s s
-still_ran start job input was fault s silent = record { journal = []; leaves = started s _ (λ left may. inl may); stored = tt; carried = tt; printed = inl (refl, silent) }
+still_ran start job input was fault s silent = record {
+  journal = [];
+  leaves = started s _ (λ left may. inl may);
+  stored = tt;
+  carried = tt;
+  printed = inl (refl, silent);
+  handed = λ opened is. unhanded start (outset_in opened job.port) input was was;
+}
 
 -- a device that was only read
 pub unwritten_ran : (start : Network NodeState) (job : Job) (input : List ℕ) (was : Option (List ℕ)) (fault : RunFault) (old new : State) → LeavesNothingNew old new → ComesSilent fault
     → Ran start job input was was (Err fault) old new
-unwritten_ran start job input was fault old new L silent =
-    record { journal = []; leaves = read_alone start [] old new L; stored = tt; carried = tt; printed = inl (refl, silent) }
+unwritten_ran start job input was fault old new L silent = record {
+  journal = [];
+  leaves = read_alone start [] old new L;
+  stored = tt;
+  carried = tt;
+  printed = inl (refl, silent);
+  handed = λ opened is. unhanded start (outset_in opened job.port) input was was;
+}
 
 -- what was printed of a device that was read, which left its bytes as they are, and was then written
 abbrev printed_since : (start : Network NodeState) (journal : List Entry) (port : ℕ) (was now : Option (List ℕ)) (result : Result ℕ RunFault) (old read new : State) → LeavesNothingNew old read
@@ -140,6 +158,7 @@ opened_ran start job input was now result old read new L same R = record {
     | inl none ↦ inl none
     | inr P ↦ inr (printed_since start R.journal job.port was now result old read new L same P)
   ];
+  handed = λ opened is. R.handed opened (subst (λ bytes. verdict bytes ≡ Ok opened) (sym same) is);
 }
 
 pub opened_into : (start : Network NodeState) (job : Job) (input : List ℕ) (was now : OutletValue) (result : Result ℕ RunFault) (old read new : State) → LeavesNothingNew old read

@@ -19,11 +19,13 @@ next_confirmed b port upto = by_test (nat_le upto (port_in b port).out_base)
     by_test false = let long = length-append b.state.entries (Confirm port upto ∷ []) in omega (arith, long)
 
 -- the receipt of what was printed and confirmed under the lock
-pub printed_is : (b new : BookValue) (port mark : ℕ) (was now : Option (List ℕ)) (held host : List (ℕ × Entry)) (bytes : List ℕ) (r : Result ReceiptValue RunFault) → length (marks_of b port) ≡ length (port_in b port).outputs
+pub printed_is : (b new : BookValue) (port mark : ℕ) (was now : Option (List ℕ)) (held host : List (ℕ × Entry)) (had has : List Entry) (bytes : List ℕ) (r : Result ReceiptValue RunFault)
+    → length (marks_of b port) ≡ length (port_in b port).outputs
     → bytes ≡ shown_from b port mark (port_in b port).out_base → Appends was now bytes → IfOk r (λ receipt. new ≡ after_confirm b port (shown_upto_of b port mark))
     → IfOk r (λ receipt. receipt.number ≡ next_in_book new) → IfOk r (IsFor (confirm_entries b port (shown_upto_of b port mark)) held host)
-    → IfOk r (IsForOutput port (port_in b port).out_base (AreShownBytes b port mark) was now held host)
-printed_is b new port mark was now held host bytes (Ok receipt) each shown appended after number F =
+    → IfOk r (λ receipt. has ≡ had ++ confirm_entries b port (shown_upto_of b port mark))
+    → IfOk r (IsForOutput port (port_in b port).out_base (AreShownBytes b port mark) was now held host had has)
+printed_is b new port mark was now held host had has bytes (Ok receipt) each shown appended after number F handed =
     let upto = shown_upto_of b port mark in
     let same : confirm_entries b port upto ≡ confirms port (port_in b port).out_base bytes = confirms_shown b port mark each ∙ ap (confirms port (port_in b port).out_base) (sym shown) in
     let next = ap next_in_book after in
@@ -38,9 +40,10 @@ printed_is b new port mark was now held host bytes (Ok receipt) each shown appen
         below = F.below;
         number = F.number ∙ ap (λ es. F.first + length es) same;
       };
+      handed = handed ∙ ap (λ es. had ++ es) same;
       are = (omega (arith, next, more, behind, number), shown);
     }
-printed_is b new port mark was now held host bytes (Err e) each shown appended after number F = tt
+printed_is b new port mark was now held host had has bytes (Err e) each shown appended after number F handed = tt
 
 pub if_made : {A E : Type 0} (r : Result A E) (P : Type 0) → P → IfOk r (λ x. P)
 if_made (Ok x) P p = p
@@ -53,11 +56,11 @@ all_shown b port mark all =
     let none : from - from ≡ 0 = omega arith in
     ap (λ n. drop n (take (shown_of b port mark) (port_in b port).outputs)) none ∙ take_all (shown_of b port mark) (port_in b port).outputs (omega (arith, all))
 
-pub output_like : (port from : ℕ) (One Other : ℕ → List ℕ → Type 0) (was now : Option (List ℕ)) (held host : List (ℕ × Entry)) (r : Result ReceiptValue RunFault) → ((number : ℕ) (bytes : List ℕ) → One number bytes → Other number bytes)
-    → IfOk r (IsForOutput port from One was now held host) → IfOk r (IsForOutput port from Other was now held host)
-output_like port from One Other was now held host (Ok receipt) like O =
-    record { printed = O.printed; appended = O.appended; confirmed = O.confirmed; are = like O.confirmed.first O.printed O.are }
-output_like port from One Other was now held host (Err e) like O = tt
+pub output_like : (port from : ℕ) (One Other : ℕ → List ℕ → Type 0) (was now : Option (List ℕ)) (held host : List (ℕ × Entry)) (had has : List Entry) (r : Result ReceiptValue RunFault)
+    → ((number : ℕ) (bytes : List ℕ) → One number bytes → Other number bytes) → IfOk r (IsForOutput port from One was now held host had has) → IfOk r (IsForOutput port from Other was now held host had has)
+output_like port from One Other was now held host had has (Ok receipt) like O =
+    record { printed = O.printed; appended = O.appended; confirmed = O.confirmed; handed = O.handed; are = like O.confirmed.first O.printed O.are }
+output_like port from One Other was now held host had has (Err e) like O = tt
 
 pub are_outputs : (b : BookValue) (port mark : ℕ) → shown_of b port mark ≡ length (port_in b port).outputs → (number : ℕ) (bytes : List ℕ) → AreShownBytes b port mark number bytes → AreOutputs b port number bytes
 are_outputs b port mark all number bytes A = (A.0, sym (A.1 ∙ all_shown b port mark all))
@@ -145,16 +148,17 @@ may_show start w b port mark confirmed there was now r A at (inr (S, F)) =
     })
 
 -- the outputs that a receipt is for are shown
-pub output_shown : (keeps began : Type 0) (start : Network NodeState) (w : World NodeState) (b : BookValue) (port mark confirmed : ℕ) (was now : Option (List ℕ)) (held host : List (ℕ × Entry)) (r : Result ReceiptValue RunFault)
-    → (keeps → began → IsAheadOf start w b) → mark ≡ w.mark → IfOk r (λ receipt. ShowsAll b port mark confirmed) → IfOk r (IsForOutput port confirmed (AreOutputs b port) was now held host)
-    → IfOk r (IsForOutput port confirmed (λ number bytes. keeps → began → AreShownIn start w port confirmed number bytes) was now held host)
-output_shown keeps began start w b port mark confirmed was now held host (Ok receipt) ahead at all O = record {
+pub output_shown : (keeps began : Type 0) (start : Network NodeState) (w : World NodeState) (b : BookValue) (port mark confirmed : ℕ) (was now : Option (List ℕ)) (held host : List (ℕ × Entry)) (had has : List Entry) (r : Result ReceiptValue RunFault)
+    → (keeps → began → IsAheadOf start w b) → mark ≡ w.mark → IfOk r (λ receipt. ShowsAll b port mark confirmed) → IfOk r (IsForOutput port confirmed (AreOutputs b port) was now held host had has)
+    → IfOk r (IsForOutput port confirmed (λ number bytes. keeps → began → AreShownIn start w port confirmed number bytes) was now held host had has)
+output_shown keeps began start w b port mark confirmed was now held host had has (Ok receipt) ahead at all O = record {
   printed = O.printed;
   appended = O.appended;
   confirmed = O.confirmed;
+  handed = O.handed;
   are = λ k there. outputs_shown start w b port mark confirmed (ahead k there) all at O.confirmed.first O.printed O.are;
 }
-output_shown keeps began start w b port mark confirmed was now held host (Err e) ahead at all O = tt
+output_shown keeps began start w b port mark confirmed was now held host had has (Err e) ahead at all O = tt
 
 -- ## As the journal grows
 

@@ -47,10 +47,10 @@ next_after b port bytes = let long = length-append b.state.entries (map (HostIn 
 pub rest_is : (b : BookValue) (outset : Outset) (input : List ℕ) → StandsIn outset b → input_rest b outset.port input ≡ rest_at outset input
 rest_is b outset input S = ap (λ n. take n (drop (accepted_of (port_in b outset.port)) input)) S.2 ∙ ap (λ n. take outset.room (drop n input)) S.1
 
-input_offered : (b new : BookValue) (outset : Outset) (input : List ℕ) (was now : List (ℕ × Entry)) (receipt : ReceiptValue) → StandsIn outset b
+input_offered : (b new : BookValue) (outset : Outset) (input : List ℕ) (was now : List (ℕ × Entry)) (had has : List Entry) (receipt : ReceiptValue) → StandsIn outset b
     → new ≡ after_inputs b outset.port (input_rest b outset.port input) → receipt.number ≡ next_in_book new → IsFor (map (HostIn outset.port) (input_rest b outset.port input)) was now receipt
-    → IsForInput outset input was now receipt
-input_offered b new outset input was now receipt S after number F =
+    → has ≡ had ++ map (HostIn outset.port) (input_rest b outset.port input) → IsForInput outset input was now had has receipt
+input_offered b new outset input was now had has receipt S after number F handed =
     let bytes = input_rest b outset.port input in
     let rest = rest_is b outset input S in
     let next = ap next_in_book after in
@@ -61,25 +61,27 @@ input_offered b new outset input was now receipt S after number F =
       slips =
           F.slips ∙ ap (λ n. was ++ enumerate_from n (map (HostIn outset.port) bytes)) first
           ∙ ap (λ part. was ++ enumerate_from outset.next (map (HostIn outset.port) part)) rest;
+      handed = handed ∙ ap (λ part. had ++ map (HostIn outset.port) part) rest;
       number =
           behind ∙ ap (λ n. n + length (map (HostIn outset.port) bytes)) first
           ∙ ap (λ n. outset.next + n) (length-map bytes (HostIn outset.port) ∙ ap length rest);
     }
 
 -- the receipt of the rest of the input, if the port is as noted
-pub offered_at : {E : Type 0} (b new : BookValue) (outset : Outset) (input : List ℕ) (was now : List (ℕ × Entry)) (r : Result ReceiptValue E) → StandsIn outset b
+pub offered_at : {E : Type 0} (b new : BookValue) (outset : Outset) (input : List ℕ) (was now : List (ℕ × Entry)) (had has : List Entry) (r : Result ReceiptValue E) → StandsIn outset b
     → IfOk r (λ receipt. new ≡ after_inputs b outset.port (input_rest b outset.port input)) → IfOk r (λ receipt. receipt.number ≡ next_in_book new)
-    → IfOk r (IsFor (map (HostIn outset.port) (input_rest b outset.port input)) was now) → IfOk r (IsForInput outset input was now)
-offered_at b new outset input was now (Ok receipt) S after number F = input_offered b new outset input was now receipt S after number F
-offered_at b new outset input was now (Err e) S after number F = tt
+    → IfOk r (IsFor (map (HostIn outset.port) (input_rest b outset.port input)) was now) → IfOk r (λ receipt. has ≡ had ++ map (HostIn outset.port) (input_rest b outset.port input))
+    → IfOk r (IsForInput outset input was now had has)
+offered_at b new outset input was now had has (Ok receipt) S after number F handed = input_offered b new outset input was now had has receipt S after number F handed
+offered_at b new outset input was now had has (Err e) S after number F handed = tt
 
 -- ## What is settled
 
 -- the host's seat has what was handed in and, after it, what confirms what was printed; with what workers made that is all
-pub host_settled : (start network : Network NodeState) (job : Job) (outset : Outset) (Are : ℕ → List ℕ → Type 0) (was now : Option (List ℕ)) (journal : List Entry) (next : ℕ) (handed host : List (ℕ × Entry)) (receipt : ReceiptValue)
-    → (O : IsForOutput outset.port outset.confirmed Are was now handed host receipt) → LeadsToOutputs start journal O.confirmed.first outset.port outset.confirmed O.printed → next ≡ receipt.number
+pub host_settled : (start network : Network NodeState) (job : Job) (outset : Outset) (Are : ℕ → List ℕ → Type 0) (was now : Option (List ℕ)) (journal : List Entry) (next : ℕ) (handed host : List (ℕ × Entry)) (had has : List Entry) (receipt : ReceiptValue)
+    → (O : IsForOutput outset.port outset.confirmed Are was now handed host had has receipt) → LeadsToOutputs start journal O.confirmed.first outset.port outset.confirmed O.printed → next ≡ receipt.number
     → SlipsStand journal host → Accounted network job journal outset.next next host → Settled start network job outset handed was now journal next
-host_settled start network job outset Are was now journal next handed host receipt O shows is stand accounted =
+host_settled start network job outset Are was now journal next handed host had has receipt O shows is stand accounted =
     let F = O.confirmed in
     let number = F.number in record {
       printed = O.printed;

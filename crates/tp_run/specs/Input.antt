@@ -22,11 +22,17 @@ rest_fault b count =
 abbrev pub rest_at : Outset → List ℕ → List ℕ
 rest_at outset input = take outset.room (drop outset.accepted input)
 
--- the slips of the entries for these bytes, numbered from the next number on
-abbrev pub input_slips : Outset → List ℕ → List (ℕ × Entry)
-input_slips outset input = enumerate_from outset.next (map (HostIn outset.port) (rest_at outset input))
+-- the entries for these bytes
+abbrev pub input_entries : Outset → List ℕ → List Entry
+input_entries outset input = map (HostIn outset.port) (rest_at outset input)
 
--- A seat got exactly the slips of the input, and the receipt's number is the next one after them.
-pub record IsForInput (outset : Outset) (input : List ℕ) (old new : List (ℕ × Entry)) (receipt : ReceiptValue) : Type 0 where
+-- their slips, numbered from the next number on
+abbrev pub input_slips : Outset → List ℕ → List (ℕ × Entry)
+input_slips outset input = enumerate_from outset.next (input_entries outset input)
+
+-- A seat got exactly the slips of the input, and the receipt's number is the next one after them. What the host has handed in grew from `before` to
+-- `after`, by exactly these entries.
+pub record IsForInput (outset : Outset) (input : List ℕ) (old new : List (ℕ × Entry)) (before after : List Entry) (receipt : ReceiptValue) : Type 0 where
   pub slips : new ≡ old ++ input_slips outset input
+  pub handed : after ≡ before ++ input_entries outset input
   pub number : receipt.number ≡ outset.next + length (rest_at outset input)

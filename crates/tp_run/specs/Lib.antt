@@ -5,6 +5,7 @@ pub mod Answered
 pub mod Every
 pub mod Failures
 pub mod Faults
+pub mod HandedOver
 pub mod Input
 pub mod Made
 pub mod Outset

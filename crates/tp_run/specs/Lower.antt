@@ -41,6 +41,7 @@ pub use Rattle.tp_recover.specs.Reading.{LeavesNothingNew, ReadAnswer}
 pub use Rattle.tp_recover.specs.declared.unopened.Unopened.{Unopened}
 pub use Rattle.tp_ready.specs.Seen.{unrisen}
 pub use Rattle.tp_shared.specs.Below.{AreBelow}
+pub use Rattle.tp_shared.specs.HandedIn.{handed}
 pub use Rattle.tp_shared.specs.Named.{Names}
 pub use Rattle.tp_shared.specs.Resting.{rest_in}
 pub use Rattle.tp_work.specs.Answers.{RefusesFor}
@@ -56,5 +57,5 @@ pub use Rattle.tp_flush.specs.Flushing.{Flushing, IsSameProcess, Walked, positio
 pub use Rattle.tp_flush.specs.Follows.{Follows}
 pub use Rattle.tp_flush.specs.Known.{Began}
 pub use Rattle.tp_flush.specs.Made.{IsMadeOf}
-pub use Rattle.tp_flush.specs.Settled.{SlipsStand}
+pub use Rattle.tp_flush.specs.Settled.{HasFront, SlipsStand}
 pub use Rattle.tp_flush.specs.declared.fault.FlushFault.{FlushFault}

@@ -1,5 +1,5 @@
 -- What a run printed, and the entry that confirms it.
-use Rattle.std.specs.Prelude.{◌≡◌, ◌≤◌, ◌⊎◌, ℕ, ◌+◌, nat_le, if◌then◌else◌, List, [], ◌∷◌, length, Option, Some, None, Result}
+use Rattle.std.specs.Prelude.{◌≡◌, ◌≤◌, ◌⊎◌, ℕ, ◌+◌, nat_le, if◌then◌else◌, List, [], ◌∷◌, ◌++◌, length, Option, Some, None, Result}
 use Rattle.tp_run.specs.Lower.{Appends, Entry, Confirm, State, BookValue, next_in_book, ReceiptValue, port_in, shown_from, shown_of, shown_upto_of, is_journal_full, IsFor}
 use Rattle.tp_run.specs.declared.fault.RunFault.{RunFault}
 use Rattle.tp_run.specs.declared.fault.RunFault.TheVariants.{ConfirmRefused, Unaccounted}
@@ -21,12 +21,13 @@ unconfirmed_fault b port mark =
     else None
 
 -- Bytes were printed, and one entry confirms exactly these bytes as outputs of the port from `from` on. The seat got the entry's slip, and the
--- receipt is for it. `Are` is true of the entry's number and of the bytes. If nothing was printed, there is no entry, and that number is the next
--- one.
-pub record IsForOutput (port from : ℕ) (Are : ℕ → List ℕ → Type 0) (was now : Option (List ℕ)) (old new : List (ℕ × Entry)) (receipt : ReceiptValue) : Type 0 where
+-- receipt is for it. What the host has handed in grew from `before` to `after`, by exactly this entry. `Are` is true of the entry's number and of the
+-- bytes. If nothing was printed, there is no entry, and that number is the next one.
+pub record IsForOutput (port from : ℕ) (Are : ℕ → List ℕ → Type 0) (was now : Option (List ℕ)) (old new : List (ℕ × Entry)) (before after : List Entry) (receipt : ReceiptValue) : Type 0 where
   pub printed : List ℕ
   pub appended : Appends was now printed
   pub confirmed : IsFor (confirms port from printed) old new receipt
+  pub handed : after ≡ before ++ confirms port from printed
   pub are : Are confirmed.first printed
 
 -- The bytes are the unconfirmed outputs of the port that the mark shows, and the number is the book's next one.

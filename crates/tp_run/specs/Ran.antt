@@ -7,6 +7,7 @@ use Rattle.tp_run.specs.Accounted.{Accounted}
 use Rattle.tp_run.specs.declared.fault.RunFault.{RunFault}
 use Rattle.tp_run.specs.declared.job.Job.{Job}
 use Rattle.tp_run.specs.declared.outset.Outset.{Outset}
+use Rattle.tp_run.specs.HandedOver.{HandedOver}
 use Rattle.tp_run.specs.Input.{input_slips}
 use Rattle.tp_run.specs.Outlet.{OutletValue, WasCalled}
 use Rattle.tp_run.specs.Outset.{outset_in}
@@ -84,12 +85,15 @@ pub record IsPrinted (start : Network NodeState) (journal : List Entry) (port : 
 --   was printed. All others since the opening were made by the workers' turns.
 -- - Perhaps nothing was printed, and the answer allows that. Otherwise as many outputs of the port were printed as the answer says. Whatever a crash
 --   leaves after that has the entries that lead to them, and whatever it leaves before that has none of the later ones.
+-- - The host handed in nothing but the input and, after the outlet had taken all outputs, the entry that confirms them. The journal has a first part of
+--   that.
 pub record Ran (start : Network NodeState) (job : Job) (input : List ℕ) (was now : Option (List ℕ)) (result : Result ℕ RunFault) (old new : State) : Type 0 where
   pub journal : List Entry
   pub leaves : LeavesOnly old new (λ left. MayBe old.now left ⊎ Follows start journal 0 old.now.bytes left)
   pub stored : IfOk result (λ next. (left : List ℕ) → MayBe new.now left → Follows start journal next old.now.bytes left)
   pub carried : IfOk result (λ next. Carried start journal job input was now next old new)
   pub printed : ((now ≡ was) × MayBeSilent result) ⊎ IsPrinted start journal job.port was now result old new
+  pub handed : (opened : Opened) → verdict old.now.bytes ≡ Ok opened → HandedOver start journal (outset_in opened job.port) input was now
 
 -- What an outlet was called for, however the run ended. It took what was printed. Whatever a crash leaves after such a call has each entry that leads
 -- to that output.

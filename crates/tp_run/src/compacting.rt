@@ -194,7 +194,7 @@ fn compact_parts<J: Naming, D: Disk, R: Wait>(
     raiser: Raiser,
     store: Store<D>,
 ) -> (D, Result<Compaction, CompactFault>)
-    requires names { Names J.roll J.first J.start J.node J.mark J.flusher J.sights J.room parts }
+    requires names { Names J.roll J.first J.start J.node J.mark J.flusher J.host J.sights J.room parts }
     requires stands { IsMadeOf opened.value parts raiser }
     requires bound { parts.book.room ≡ Some (room opened.value.head.topology opened.value.head.areas.length) }
     requires cut { IsCut t414_ends opened.value.head.topology opened.value.base opened.value.cut }
@@ -212,16 +212,17 @@ fn compact_parts<J: Naming, D: Disk, R: Wait>(
     ensures failures { D.failures_of result.0 ≡ failures_after (has_failed_in result.1) (D.failures_of store.disk) }
     ensures last { SaysLast result.1 (is_full_for_snapshot store.place.generation) }
 {
-    let (shared, key) = Shared::<J>::start(parts);
+    let (shared, told, mut key) = Shared::<J>::start(parts);
     let journal = JournalRoom::of(&topology, store.place.areas.length);
-    let mut flusher = Flusher::over(opened, topology, store, key, raiser);
+    let mut flusher = Flusher::over(opened, topology, store, told, raiser);
     flusher.known();
     let done = switch_all(rt, alloc, &shared, &mut flusher, journal);
+    flusher.settle_host_under(rt, &shared, &mut key);
     (flusher.into_disk(), done)
 }
 
-/// Opens a device, writes its network as it is into the other area as a new cut, and switches to that area. No node runs, no token is taken, and all
-/// output stays. Afterwards the journal is empty, even if it was full. Answers the device, and what it has then.
+/// Opens a device, writes its network as it is into the other area as a new cut, and switches to that area. No node runs, no token is taken, nothing is
+/// handed in, and all output stays. Afterwards the journal is empty, even if it was full. Answers the device, and what it has then.
 ///
 /// A crash at any moment of the call leaves one of two things. Either a crash just before the call might have left it, too; or it opens to the
 /// network that a prefix of the journal leads to. That prefix has all that the device had. The store's contract says so (`Flusher::turn`,

@@ -1,6 +1,6 @@
 //! The output that a run prints and confirms.
 
-ghost use Rattle.std.specs.Prelude.{◌≡◌, ◌<◌, ◌≤◌, length, take, IsOk, IfOk, IfErr, OnOk, OnErr};
+ghost use Rattle.std.specs.Prelude.{◌≡◌, ◌<◌, ◌≤◌, ◌++◌, length, take, IsOk, IfOk, IfErr, OnOk, OnErr};
 ghost use Rattle.tp_run.specs.Lower.{Appends, Began, next_in_book, after_confirm, port_in, shown_from, shown_of, shown_upto_of, confirm_entries, IsFor, RefusesFor, IsAheadOf};
 ghost use Rattle.tp_run.specs.Faults.{IsLate};
 ghost use Rattle.tp_run.specs.Output.{AreOutputs, AreShownBytes, IsForOutput, PrintedOf, ShowsAll, unconfirmed_fault};
@@ -14,7 +14,7 @@ use crate::outset::Outset;
 use tp_book::{Book, Receipt};
 use tp_disk::Disk;
 use tp_flush::Flusher;
-use tp_shared::{Locked, Naming, Seat};
+use tp_shared::{HostKey, Locked, Naming, Seat};
 use tp_work::{ConfirmFault, confirm};
 
 /// Calls an outlet with bytes until it has taken all of them or failed. Answers how many of them it took. An interrupted call is made again.
@@ -60,11 +60,12 @@ fn put<J: Naming, D: Disk, O: Outlet>(
     Ok(())
 }
 
-/// Journals, under the book's lock, that the host has all outputs of a port that `mark` shows. `seat` gets the entry's slip. Fails with
-/// `ConfirmRefused` if the journal is full, with `Unaccounted` if the store is broken, or with `Memory`; then nothing changes.
+/// Journals, under the book's lock, that the host has all outputs of a port that `mark` shows. `seat` gets the entry's slip, and `key` shows the entry.
+/// Fails with `ConfirmRefused` if the journal is full, with `Unaccounted` if the store is broken, or with `Memory`; then nothing changes.
 fn confirm_shown<J: Naming>(
     held: &mut Locked<J>,
     seat: &mut Seat<J>,
+    key: &mut HostKey<J>,
     port: u8,
     mark: u64,
 ) -> Result<Receipt, RunFault>
@@ -73,12 +74,13 @@ fn confirm_shown<J: Naming>(
     ensures book { IfOk result (λ receipt. held.new.book ≡ after_confirm held.old.book port (shown_upto_of held.old.book port mark)) }
     ensures number { IfOk result (λ receipt. receipt.number ≡ next_in_book held.new.book) }
     ensures receipt { IfOk result (IsFor (confirm_entries held.old.book port (shown_upto_of held.old.book port mark)) seat.old seat.new) }
+    ensures handed { IfOk result (λ receipt. key.new ≡ key.old ++ confirm_entries held.old.book port (shown_upto_of held.old.book port mark)) }
     ensures late { IfErr result IsLate }
     ensures told { TellsAllPrinted result }
-    ensures err { OnErr result ((held.new ≡ held.old) × (seat.new ≡ seat.old)) }
+    ensures err { OnErr result ((held.new ≡ held.old) × (seat.new ≡ seat.old) × (key.new ≡ key.old)) }
 {
     let upto = held.book().shown_upto(port, mark);
-    match confirm(held, seat, port, mark, upto) {
+    match confirm(held, seat, key, port, mark, upto) {
         Ok(receipt) => Ok(receipt),
         Err(ConfirmFault::JournalFull) => Err(RunFault::ConfirmRefused),
         Err(ConfirmFault::Memory) => Err(RunFault::Memory),
@@ -88,11 +90,12 @@ fn confirm_shown<J: Naming>(
 }
 
 /// Prints, under the book's lock, the outputs of a port that `mark` shows and that aren't confirmed, and confirms them. The receipt has the number of
-/// the next entry, and `seat` gets the slip. If the output can't be written, it fails with `OutputFailed` and confirms nothing. Else it fails as
-/// `confirm_shown` does.
+/// the next entry. `seat` gets the slip, and `key` shows the entry. If the output can't be written, it fails with `OutputFailed` and confirms nothing.
+/// Else it fails as `confirm_shown` does.
 fn print_shown<J: Naming, D: Disk, O: Outlet>(
     held: &mut Locked<J>,
     seat: &mut Seat<J>,
+    key: &mut HostKey<J>,
     flusher: &Flusher<J, D>,
     port: u8,
     mark: u64,
@@ -103,13 +106,13 @@ fn print_shown<J: Naming, D: Disk, O: Outlet>(
     ensures printed { PrintsAt flusher.now.state result (O.value out.old) (O.value out.new) (shown_from held.old.book port mark (port_in held.old.book port).out_base) }
     ensures book { IfOk result (λ receipt. held.new.book ≡ after_confirm held.old.book port (shown_upto_of held.old.book port mark)) }
     ensures number { IfOk result (λ receipt. receipt.number ≡ next_in_book held.new.book) }
-    ensures receipt { IfOk result (IsForOutput port (port_in held.old.book port).out_base (AreShownBytes held.old.book port mark) (O.value out.old).taken (O.value out.new).taken seat.old seat.new) }
+    ensures receipt { IfOk result (IsForOutput port (port_in held.old.book port).out_base (AreShownBytes held.old.book port mark) (O.value out.old).taken (O.value out.new).taken seat.old seat.new key.old key.new) }
     ensures late { IfErr result IsLate }
-    ensures err { OnErr result ((held.new ≡ held.old) × (seat.new ≡ seat.old)) }
+    ensures err { OnErr result ((held.new ≡ held.old) × (seat.new ≡ seat.old) × (key.new ≡ key.old)) }
 {
     let from = held.book().out_base(port);
     put(flusher, out, held.book().shown(port, mark, from))?;
-    confirm_shown(held, seat, port, mark)
+    confirm_shown(held, seat, key, port, mark)
 }
 
 /// Tests that `mark` shows all outputs of a port and is above all entries of the book. Fails with `Unaccounted` exactly if one of the two is false.
@@ -133,6 +136,7 @@ fn is_all_shown(book: &Book, port: u8, mark: u64) -> Result<(), RunFault>
 pub(crate) fn print_from<J: Naming, D: Disk, O: Outlet>(
     held: &mut Locked<J>,
     seat: &mut Seat<J>,
+    key: &mut HostKey<J>,
     flusher: &Flusher<J, D>,
     outset: Outset,
     mark: u64,
@@ -141,13 +145,13 @@ pub(crate) fn print_from<J: Naming, D: Disk, O: Outlet>(
     requires there { outset.port < length held.old.book.state.ports }
     requires mark { mark ≡ flusher.now.world.mark }
     requires ahead { D.keeps → Began J.formatted J.before flusher.now.opened → IsAheadOf J.formatted flusher.now.world held.old.book }
-    ensures receipt { IfOk result (IsForOutput outset.port outset.confirmed (AreOutputs held.old.book outset.port) (O.value out.old).taken (O.value out.new).taken seat.old seat.new) }
+    ensures receipt { IfOk result (IsForOutput outset.port outset.confirmed (AreOutputs held.old.book outset.port) (O.value out.old).taken (O.value out.new).taken seat.old seat.new key.old key.new) }
     ensures all { IfOk result (λ receipt. ShowsAll held.old.book outset.port mark outset.confirmed) }
     ensures printed { PrintedOf held.old.book outset.port mark outset.confirmed flusher.now.state (O.value out.old) (O.value out.new) result }
     ensures late { IfErr result IsLate }
-    ensures err { OnErr result ((held.new ≡ held.old) × (seat.new ≡ seat.old)) }
+    ensures err { OnErr result ((held.new ≡ held.old) × (seat.new ≡ seat.old) × (key.new ≡ key.old)) }
 {
     outset.is_confirmed_in(held.book())?;
     is_all_shown(held.book(), outset.port, mark)?;
-    print_shown(held, seat, flusher, outset.port, mark, out)
+    print_shown(held, seat, key, flusher, outset.port, mark, out)
 }

@@ -5,6 +5,7 @@ ghost use Rattle.tp_run.specs.Lower.{AllByRecursion, place_at, Began, IsSameProc
 ghost use Rattle.tp_run.specs.Answered.{AnswerFor};
 ghost use Rattle.tp_run.specs.Failures.{failures_after, has_failed};
 ghost use Rattle.tp_run.specs.Faults.{ComesBegun, IsSilent, IsUnbegun};
+ghost use Rattle.tp_run.specs.HandedOver.{HandedOver};
 ghost use Rattle.tp_run.specs.Input.{input_slips, rest_at};
 ghost use Rattle.tp_run.specs.Outset.{outset_in};
 ghost use Rattle.tp_run.specs.Ran.{History, Ran, RanInto, Settled};
@@ -31,15 +32,15 @@ use tp_net::Topology;
 use tp_node::Rest;
 use tp_ready::Raiser;
 use tp_recover::{Opened, open};
-use tp_shared::{Naming, NoGate, Parts};
+use tp_shared::{HostKey, Naming, NoGate, Parts};
 use tp_work::{Net, Seat};
 
 /// Drops a network. It is never inlined, since moving the network takes room on the stack.
 #[inline(never)]
 fn let_go<J: Naming>(_net: Net<J, NoGate>) {}
 
-/// Serves a network as `serve` does, says what is left to do in it, and drops it. It is a function of its own so that the network isn't on the stack
-/// together with the parts that it was made of.
+/// Serves a network as `serve` does, says what is left to do in it, and drops it. `key` was lent to nothing else, so the journal has nothing from the
+/// host but what `serve` handed in. It is a function of its own so that the network isn't on the stack together with the parts that it was made of.
 #[inline(never)]
 fn use_up<J: Naming + Send + Sync, D: Disk + Send + Drop, O: Outlet, R: Threads + Wait + Sync>(
     rt: &R,
@@ -50,6 +51,7 @@ fn use_up<J: Naming + Send + Sync, D: Disk + Send + Drop, O: Outlet, R: Threads 
     net: Net<J, NoGate>,
     seats: Vec<Seat<J>>,
     host: tp_shared::Seat<J>,
+    key: HostKey<J>,
     flusher: Flusher<J, D>,
     input: &[u8],
     out: &mut O,
@@ -60,6 +62,7 @@ fn use_up<J: Naming + Send + Sync, D: Disk + Send + Drop, O: Outlet, R: Threads 
     requires seats { All (λ seat. (seat.hand.of ≡ Some net.queue) × (seat.slips ≡ [])) seats.items }
     requires count { vec_len seats ≡ job.workers }
     requires host { host ≡ [] }
+    requires key { key ≡ [] }
     requires rests { flusher.world.at ≡ Resting }
     ensures walks { D.keeps → Began J.formatted J.before flusher.opened → Walked flusher result.0 }
     ensures process { IsSameProcess flusher result.0 }
@@ -69,15 +72,19 @@ fn use_up<J: Naming + Send + Sync, D: Disk + Send + Drop, O: Outlet, R: Threads 
         → IfOk result.1 (Settled J.formatted J.start job outset (input_slips outset input.now) (O.value out.old).taken (O.value out.new).taken result.0.world.journal) }
     ensures shown { D.keeps → Began J.formatted J.before flusher.opened
         → MayPrint J.formatted flusher result.0 outset.port outset.confirmed (O.value out.old) (O.value out.new) result.1 }
+    ensures handed { D.keeps → Began J.formatted J.before flusher.opened
+        → HandedOver J.formatted result.0.world.journal outset input.now (O.value out.old).taken (O.value out.new).taken }
     ensures rest { D.keeps → Began J.formatted J.before flusher.opened
         → IfOk result.1 (λ next. SaysRest J.formatted result.0.world.journal next result.2) }
     ensures silent { IsSilent result.1 → O.value out.new ≡ O.value out.old }
     ensures some { IfErr result.1 (λ fault. fault ≡ RunFault.OfferRefused → 0 < length (rest_at outset input.now)) }
     ensures begun { IfErr result.1 ComesBegun }
 {
+    let mut key = key;
     let (mut flusher, done) = serve(
-        rt, alloc, job, every, outset, &net, seats, host, flusher, input, out,
+        rt, alloc, job, every, outset, &net, seats, host, &mut key, flusher, input, out,
     );
+    flusher.settle_host_under(rt, net.shared(), &mut key);
     let rest = rest_after(rt, net.shared(), &mut flusher, &done);
     let_go(net);
     (flusher, done, rest)
@@ -102,7 +109,7 @@ fn run_parts<J: Naming + Send + Sync, D: Disk + Send + Drop, O: Outlet, R: Threa
     requires workers { (0 < job.workers) × (job.workers ≤ MAX_WORKERS) }
     requires quantum { (0 < job.quantum) × (job.quantum ≤ MAX_STEPS) }
     requires port { job.port < opened.value.head.topology.ports }
-    requires names { Names J.roll J.first J.start J.node J.mark J.flusher J.sights J.room parts }
+    requires names { Names J.roll J.first J.start J.node J.mark J.flusher J.host J.sights J.room parts }
     requires stands { IsMadeOf opened.value parts raiser }
     requires bound { parts.book.room ≡ Some (room opened.value.head.topology opened.value.head.areas.length) }
     requires cut { IsCut t414_ends opened.value.head.topology opened.value.base opened.value.cut }
@@ -125,7 +132,7 @@ fn run_parts<J: Naming + Send + Sync, D: Disk + Send + Drop, O: Outlet, R: Threa
     ensures some { IfErr result.1 (λ fault. fault ≡ RunFault.OfferRefused → 0 < length (rest_at outset input.now)) }
     ensures begun { IfErr result.1 ComesBegun }
 {
-    let Ok((mut net, seats, key)) = Net::<J, NoGate>::start(
+    let Ok((mut net, seats, told, key)) = Net::<J, NoGate>::start(
         rt,
         alloc,
         parts,
@@ -137,11 +144,11 @@ fn run_parts<J: Naming + Send + Sync, D: Disk + Send + Drop, O: Outlet, R: Threa
     };
     let host = net.seat();
     let every = every_of(job.every, &topology, store.place.areas.length);
-    let flusher = Flusher::over(opened, topology, store, key, raiser);
+    let flusher = Flusher::over(opened, topology, store, told, raiser);
     flusher.known();
     stored_slips_are_recovered();
     let (flusher, done, rest) = use_up(
-        rt, alloc, job, every, outset, net, seats, host, flusher, input, out,
+        rt, alloc, job, every, outset, net, seats, host, key, flusher, input, out,
     );
     (flusher.into_disk(), done, rest)
 }
@@ -162,7 +169,8 @@ fn run_parts<J: Naming + Send + Sync, D: Disk + Send + Drop, O: Outlet, R: Threa
 ///
 /// However the call ends, what it printed are outputs of the port, and whatever a crash leaves from then on has the entries that lead to them. If the
 /// output can't be written, fewer than all of them were printed. Each call of `out` is for all outputs that it hasn't taken. The calls end when it
-/// has taken all or one has failed, and until then the device's state stays as it is.
+/// has taken all or one has failed, and until then the device's state stays as it is. The host hands in nothing but the input and, after `out` has taken
+/// all outputs, the entry that confirms them.
 ///
 /// A fault tells its reason: that the device isn't opened, what is wrong with the job, or what failed later. It says that a call of the device failed
 /// exactly if one did.

@@ -1,9 +1,10 @@
 //! What a run does with a network in threads, and with its flusher.
 
-ghost use Rattle.std.specs.Prelude.{◌≡◌, ◌<◌, ◌≤◌, ◌++◌, [], All, flat_map, length, vec_len, IfErr, IfOk, OnErr, Some};
+ghost use Rattle.std.specs.Prelude.{◌≡◌, ◌<◌, ◌≤◌, ◌⊎◌, ◌++◌, [], All, flat_map, length, vec_len, IfErr, IfOk, OnErr, Some};
 ghost use Rattle.tp_run.specs.Lower.{Began, IsSameProcess, Walked, position, SlipsStand, AreAll, Resting};
 ghost use Rattle.tp_run.specs.Failures.{CountsFailures, failures_after, has_failed};
 ghost use Rattle.tp_run.specs.Faults.{ComesBegun, ComesBehind, IsLate, IsOfferFault, IsSilent};
+ghost use Rattle.tp_run.specs.HandedOver.{ConfirmsTaken, HandsIn};
 ghost use Rattle.tp_run.specs.Input.{IsForInput, input_slips, rest_at};
 ghost use Rattle.tp_run.specs.Output.{IsForOutput};
 ghost use Rattle.tp_run.specs.Prints.{TellsAllPrinted};
@@ -27,33 +28,36 @@ use std::thread::{Threads, join};
 use tp_book::Receipt;
 use tp_disk::Disk;
 use tp_flush::Flusher;
-use tp_shared::{Locked, Naming, NoGate, Shared};
+use tp_shared::{HostKey, Locked, Naming, NoGate, Shared};
 use tp_work::{Net, Seat};
 
-/// Hands in the input, under the book's lock. `seat` gets the slips. Fails as `offer_at` does, and then `seat` stays as it was.
+/// Hands in the input, under the book's lock. `seat` gets the slips, and `key` shows the entries. Fails as `offer_at` does, and then both stay as they
+/// were.
 fn offer<J: Naming, R: Wait>(
     rt: &R,
     shared: &Shared<J>,
     seat: &mut tp_shared::Seat<J>,
+    key: &mut HostKey<J>,
     outset: Outset,
     input: &[u8],
 ) -> Result<Receipt, RunFault>
     requires { outset.port < length J.start.ports }
-    ensures receipt { IfOk result (IsForInput outset input.now seat.old seat.new) }
+    ensures receipt { IfOk result (IsForInput outset input.now seat.old seat.new key.old key.new) }
     ensures refused { IfErr result IsOfferFault }
     ensures some { IfErr result (λ fault. fault ≡ RunFault.OfferRefused → 0 < length (rest_at outset input.now)) }
-    ensures err { OnErr result (seat.new ≡ seat.old) }
+    ensures err { OnErr result ((seat.new ≡ seat.old) × (key.new ≡ key.old)) }
 {
     let mut held = shared.book().lock(rt);
     held.known();
-    offer_at(&mut held, seat, outset, input)
+    offer_at(&mut held, seat, key, outset, input)
 }
 
 /// Prints and confirms, under the book's lock, what `mark` shows, which the flusher raised. What it prints are outputs of the port in a network to
-/// which the flusher's journal leads. `seat` gets the slip. Fails as `print_from` does.
+/// which the flusher's journal leads. `seat` gets the slip, and `key` shows the entry. Fails as `print_from` does.
 fn print_settled<J: Naming, D: Disk, O: Outlet>(
     held: &mut Locked<J>,
     seat: &mut tp_shared::Seat<J>,
+    key: &mut HostKey<J>,
     flusher: &mut Flusher<J, D>,
     outset: Outset,
     mark: u64,
@@ -64,21 +68,22 @@ fn print_settled<J: Naming, D: Disk, O: Outlet>(
     ensures same { flusher.new ≡ flusher.old }
     ensures receipt { IfOk result (IsForOutput outset.port outset.confirmed
         (λ number bytes. D.keeps → Began J.formatted J.before flusher.old.opened → AreShownIn J.formatted flusher.old.world outset.port outset.confirmed number bytes)
-        (O.value out.old).taken (O.value out.new).taken seat.old seat.new) }
+        (O.value out.old).taken (O.value out.new).taken seat.old seat.new key.old key.new) }
     ensures shown { D.keeps → Began J.formatted J.before flusher.old.opened
         → MayShow J.formatted flusher.old.world.journal flusher.old.world.mark outset.port outset.confirmed flusher.old.state (O.value out.old) (O.value out.new) result }
     ensures late { IfErr result IsLate }
-    ensures err { OnErr result ((held.new ≡ held.old) × (seat.new ≡ seat.old)) }
+    ensures err { OnErr result ((held.new ≡ held.old) × (seat.new ≡ seat.old) × (key.new ≡ key.old)) }
 {
     flusher.settle_book(held);
-    print_from(held, seat, flusher, outset, mark, out)
+    print_from(held, seat, key, flusher, outset, mark, out)
 }
 
-/// Takes the book's lock, and prints and confirms as `print_settled` does. `seat` gets the slip.
+/// Takes the book's lock, and prints and confirms as `print_settled` does. `seat` gets the slip, and `key` shows the entry.
 fn print<J: Naming, D: Disk, O: Outlet, R: Wait>(
     rt: &R,
     shared: &Shared<J>,
     seat: &mut tp_shared::Seat<J>,
+    key: &mut HostKey<J>,
     flusher: &mut Flusher<J, D>,
     outset: Outset,
     mark: u64,
@@ -89,15 +94,15 @@ fn print<J: Naming, D: Disk, O: Outlet, R: Wait>(
     ensures same { flusher.new ≡ flusher.old }
     ensures receipt { IfOk result (IsForOutput outset.port outset.confirmed
         (λ number bytes. D.keeps → Began J.formatted J.before flusher.old.opened → AreShownIn J.formatted flusher.old.world outset.port outset.confirmed number bytes)
-        (O.value out.old).taken (O.value out.new).taken seat.old seat.new) }
+        (O.value out.old).taken (O.value out.new).taken seat.old seat.new key.old key.new) }
     ensures shown { D.keeps → Began J.formatted J.before flusher.old.opened
         → MayShow J.formatted flusher.old.world.journal flusher.old.world.mark outset.port outset.confirmed flusher.old.state (O.value out.old) (O.value out.new) result }
     ensures late { IfErr result IsLate }
-    ensures err { OnErr result (seat.new ≡ seat.old) }
+    ensures err { OnErr result ((seat.new ≡ seat.old) × (key.new ≡ key.old)) }
 {
     let mut held = shared.book().lock(rt);
     held.known();
-    print_settled(&mut held, seat, flusher, outset, mark, out)
+    print_settled(&mut held, seat, key, flusher, outset, mark, out)
 }
 
 /// Lets the workers make their turns. The flusher makes its own meanwhile in another thread, or after them if no thread can be made. Answers the
@@ -164,7 +169,8 @@ fn settle<J: Naming, D: Disk, R: Wait>(
 
 /// Flushes, prints what is shown, confirms it, and flushes again. Answers the number that the next entry gets. All that was journalled since the
 /// opening is then in the journal: the workers' entries, those of the host's seat (the input's), and the one that confirms the output. However it
-/// ends, what was printed are outputs of the port in a network to which the journal leads.
+/// ends, what was printed are outputs of the port in a network to which the journal leads. `key` shows the entry that confirms the output, unless it
+/// ends before that was made.
 #[inline(never)]
 fn finish<J: Naming, D: Disk, O: Outlet, R: Wait>(
     rt: &R,
@@ -174,6 +180,7 @@ fn finish<J: Naming, D: Disk, O: Outlet, R: Wait>(
     outset: Outset,
     offered: Receipt,
     host: tp_shared::Seat<J>,
+    key: &mut HostKey<J>,
     seats: Vec<Seat<J>>,
     flusher: &mut Flusher<J, D>,
     out: &mut O,
@@ -189,6 +196,8 @@ fn finish<J: Naming, D: Disk, O: Outlet, R: Wait>(
         → IfOk result (Settled J.formatted J.start job outset host (O.value out.old).taken (O.value out.new).taken flusher.new.world.journal) }
     ensures shown { D.keeps → Began J.formatted J.before flusher.old.opened
         → MayPrint J.formatted flusher.old flusher.new outset.port outset.confirmed (O.value out.old) (O.value out.new) result }
+    ensures handed { D.keeps → Began J.formatted J.before flusher.old.opened
+        → (key.new ≡ key.old) ⊎ ConfirmsTaken J.formatted flusher.new.world.journal outset.port outset.confirmed (O.value out.old).taken (O.value out.new).taken key.old key.new }
     ensures silent { IsSilent result → O.value out.new ≡ O.value out.old }
     ensures failures { CountsFailures flusher.old flusher.new }
     ensures ends { flusher.new.world.at ≡ position (has_failed result) }
@@ -198,15 +207,15 @@ fn finish<J: Naming, D: Disk, O: Outlet, R: Wait>(
     let mut host = host;
     let number = offered.number();
     let mark = flush_upto(rt, alloc, shared, flusher, number, RunFault::FlushFailed)?;
-    let confirmed = print(rt, shared, &mut host, flusher, outset, mark, out)?;
+    let confirmed = print(rt, shared, &mut host, key, flusher, outset, mark, out)?;
     let next = confirmed.number();
     let _mark = flush_upto(rt, alloc, shared, flusher, next, RunFault::LastFlushFailed)?;
     settle(rt, shared, flusher, outset.next, next, seats, host)
 }
 
 /// Hands in the input, lets the workers make their turns, and prints and confirms what is shown then. Answers the flusher, and the number that the
-/// next entry gets. The seat `host` gets the slips of what is handed in and confirmed. If the input is refused, it fails before any turn; else it
-/// fails as `finish` does.
+/// next entry gets. The seat `host` gets the slips of what is handed in and confirmed, and `key` shows these entries. If the input is refused, it
+/// fails before any turn; else it fails as `finish` does.
 #[inline(never)]
 pub(crate) fn serve<
     J: Naming + Send + Sync,
@@ -222,6 +231,7 @@ pub(crate) fn serve<
     net: &Net<J, NoGate>,
     seats: Vec<Seat<J>>,
     host: tp_shared::Seat<J>,
+    key: &mut HostKey<J>,
     flusher: Flusher<J, D>,
     input: &[u8],
     out: &mut O,
@@ -232,6 +242,7 @@ pub(crate) fn serve<
     requires seats { All (λ seat. (seat.hand.of ≡ Some net.now.queue) × (seat.slips ≡ [])) seats.items }
     requires count { vec_len seats ≡ job.workers }
     requires host { host ≡ [] }
+    requires key { key.old ≡ [] }
     requires rests { flusher.world.at ≡ Resting }
     ensures walks { D.keeps → Began J.formatted J.before flusher.opened → Walked flusher result.0 }
     ensures process { IsSameProcess flusher result.0 }
@@ -241,6 +252,8 @@ pub(crate) fn serve<
         → IfOk result.1 (Settled J.formatted J.start job outset (input_slips outset input.now) (O.value out.old).taken (O.value out.new).taken result.0.world.journal) }
     ensures shown { D.keeps → Began J.formatted J.before flusher.opened
         → MayPrint J.formatted flusher result.0 outset.port outset.confirmed (O.value out.old) (O.value out.new) result.1 }
+    ensures handed { D.keeps → Began J.formatted J.before flusher.opened
+        → HandsIn J.formatted result.0.world.journal outset input.now (O.value out.old).taken (O.value out.new).taken key.new }
     ensures silent { IsSilent result.1 → O.value out.new ≡ O.value out.old }
     ensures some { IfErr result.1 (λ fault. fault ≡ RunFault.OfferRefused → 0 < length (rest_at outset input.now)) }
     ensures begun { IfErr result.1 ComesBegun }
@@ -248,7 +261,7 @@ pub(crate) fn serve<
     flusher.known();
     let shared = net.shared();
     let mut host = host;
-    let offered = match offer(rt, shared, &mut host, outset, input) {
+    let offered = match offer(rt, shared, &mut host, key, outset, input) {
         Ok(offered) => offered,
         Err(fault) => return (flusher, Err(fault)),
     };
@@ -262,6 +275,7 @@ pub(crate) fn serve<
         outset,
         offered,
         host,
+        key,
         seats,
         &mut flusher,
         out,

@@ -10,6 +10,7 @@ ghosts-compact_parts g a = record {
   node = name_of a.parts.seals;
   mark = a.parts.mark;
   flusher = a.parts.flusher;
+  host = a.parts.host;
   sights = a.parts.sights;
   room = a.parts.book.room;
   formatted = g.history.formatted;

@@ -1,8 +1,9 @@
-use Rattle.std.proofs.Common.{◌≡◌, Ok, sym, ap, subst, ◌∙◌}
-use Rattle.tp_run.proofs.Lower.{Place, is_full_for_snapshot, NodeState, State, held_of, verdict, World, reopened, Began}
+use Rattle.std.proofs.Common.{◌≡◌, [], drop, Ok, sym, ap, subst, ◌∙◌}
+use Rattle.tp_run.proofs.Lower.{Place, is_full_for_snapshot, NodeState, State, held_of, next_of, verdict, World, reopened, handed, Flushing, Began}
 use Rattle.tp_run.specs.Compacted.{Compacted, SaysLast, has_failed_in}
 use Rattle.tp_run.specs.Failures.{failures_after}
 use Rattle.tp_run.proofs.Compacts.{walked_compacted}
+use Rattle.tp_run.proofs.HandedOver.{none_handed}
 use Rattle.tp_run.proofs.compacting.compact_parts.Goals as goal
 
 pub over-flusher-requires-clause-bound : goal.over-flusher-requires-clause-bound
@@ -25,8 +26,13 @@ returns-clause-kept g c k began =
     let reads : verdict old.state.now.bytes ≡ Ok opened = subst (λ (s : State). verdict s.now.bytes ≡ Ok opened) device (c.requires.read k) in
     let world : old.world ≡ reopened before old.state.now.bytes (held_of opened) opened.now =
     subst (λ (s : State). old.world ≡ reopened before s.now.bytes (held_of opened) opened.now) device c.over-flusher.ensures.world in
-    let kept : Compacted start done old.state new.state = walked_compacted start before opened old new done (c.known.ensures.reached k first) there reads world (c.switch_all-done.ensures.walks k first) c.switch_all-done.ensures.stored in
-    subst (λ s. Compacted start done (g.D.Disk.state c.args.store.disk) s) (sym c.into_disk.ensures.state) (subst (λ s. Compacted start done s new.state) c.over-flusher.ensures.device.0 kept)
+    let later : Began start before new.opened = subst (Began start before) (sym c.switch_all-done.ensures.process.opened) first in
+    let none : handed (drop g.J.Naming.first new.world.journal) ≡ [] = none_handed c.start-shared.result.2 new.world.journal g.J.Naming.first c.start-shared.ensures.host (c.settle_host_under.ensures.handed k later) in
+    let untouched : handed (drop (next_of opened) new.world.journal) ≡ [] =
+    subst (λ n. handed (drop n new.world.journal) ≡ []) (sym c.requires.names.first_is ∙ c.requires.stands.first) none in
+    let kept : Compacted start done old.state new.state =
+    walked_compacted start before opened old new done (c.known.ensures.reached k first) there reads world (c.switch_all-done.ensures.walks k first) c.switch_all-done.ensures.stored untouched in
+    subst (λ s. Compacted start done (g.D.Disk.state c.args.store.disk) s) (sym (c.into_disk.ensures.state ∙ ap (λ (f : Flushing). f.state) c.settle_host_under.ensures.same.0)) (subst (λ s. Compacted start done s new.state) c.over-flusher.ensures.device.0 kept)
 
 -- ## Which fault
 
@@ -36,7 +42,7 @@ switch_all-done-requires g c = record { rests = ap (λ (w : World NodeState). w.
 pub returns-clause-failures : goal.returns-clause-failures
 returns-clause-failures g c =
     let here = c.over-flusher.ensures.device.2 in
-    c.into_disk.ensures.failures ∙ subst (λ n. c.switch_all-done.new.flusher.failures ≡ failures_after (has_failed_in c.switch_all-done.result) n) here c.switch_all-done.ensures.failures
+    c.into_disk.ensures.failures ∙ ap (λ (f : Flushing). f.failures) c.settle_host_under.ensures.same.0 ∙ subst (λ n. c.switch_all-done.new.flusher.failures ≡ failures_after (has_failed_in c.switch_all-done.result) n) here c.switch_all-done.ensures.failures
 
 pub returns-clause-last : goal.returns-clause-last
 returns-clause-last g c =

@@ -8,8 +8,8 @@ use Rattle.tp_run.proofs.offering.offer_at.Goals as goal
 pub returns-clause-receipt : goal.returns-clause-receipt
 returns-clause-receipt g c =
     let E = c.offer_rest.ensures in
-    offered_at c.args.held.now.book c.offer_rest.new.held.book c.args.outset c.args.input.now c.args.seat.now c.offer_rest.new.seat c.offer_rest.result
-    (subst (StandsIn c.args.outset) c.book.ensures c.in_ok-stands_in.ensures.stands) E.book E.number E.receipt
+    offered_at c.args.held.now.book c.offer_rest.new.held.book c.args.outset c.args.input.now c.args.seat.now c.offer_rest.new.seat c.args.key.now c.offer_rest.new.key c.offer_rest.result
+    (subst (StandsIn c.args.outset) c.book.ensures c.in_ok-stands_in.ensures.stands) E.book E.number E.receipt E.handed
 
 pub returns-clause-some : goal.returns-clause-some
 returns-clause-some g c =

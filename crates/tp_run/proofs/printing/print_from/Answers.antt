@@ -26,8 +26,10 @@ returns-clause-receipt g c =
     let all = subst (λ d. shown_of d port c.args.mark ≡ length (port_in d port).outputs) c.book-2.ensures c.in_ok-is_all_shown.ensures.all in
     let held = c.args.seat.now in
     let host = c.print_shown.new.seat in
-    subst (λ from. IfOk c.print_shown.result (IsForOutput port from (AreOutputs b port) was now held host)) base
-    (output_like port (port_in b port).out_base _ (AreOutputs b port) was now held host c.print_shown.result (are_outputs b port c.args.mark all) c.print_shown.ensures.receipt)
+    let had = c.args.key.now in
+    let has = c.print_shown.new.key in
+    subst (λ from. IfOk c.print_shown.result (IsForOutput port from (AreOutputs b port) was now held host had has)) base
+    (output_like port (port_in b port).out_base _ (AreOutputs b port) was now held host had has c.print_shown.result (are_outputs b port c.args.mark all) c.print_shown.ensures.receipt)
 
 pub returns-clause-all : goal.returns-clause-all
 returns-clause-all g c =

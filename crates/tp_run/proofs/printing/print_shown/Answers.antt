@@ -53,5 +53,5 @@ returns-clause-receipt g c =
     c.shown.ensures.value ∙ ap (λ d. shown_from d port mark c.out_base-from.result) c.book-2.ensures
     ∙ ap (shown_from b port mark) (c.out_base-from.ensures ∙ ap (λ d. (port_in d port).out_base) c.book.ensures) in
     let E = c.confirm_shown.ensures in
-    printed_is b c.confirm_shown.new.held.book port mark (g.O.Outlet.value c.args.out.now).taken (g.O.Outlet.value c.put.new.out).taken c.args.seat.now c.confirm_shown.new.seat c.shown.result.now c.confirm_shown.result each shown
-    c.in_ok-put.ensures.written E.book E.number E.receipt
+    printed_is b c.confirm_shown.new.held.book port mark (g.O.Outlet.value c.args.out.now).taken (g.O.Outlet.value c.put.new.out).taken c.args.seat.now c.confirm_shown.new.seat c.args.key.now c.confirm_shown.new.key
+    c.shown.result.now c.confirm_shown.result each shown c.in_ok-put.ensures.written E.book E.number E.receipt E.handed

@@ -29,6 +29,7 @@ run_parts-requires-clause-names g c κs within =
       nodes_are = λ i. refl;
       mark_is = refl;
       flusher_is = refl;
+      host_is = refl;
       sights_is = refl;
       room_is = refl;
     }

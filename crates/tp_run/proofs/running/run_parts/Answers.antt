@@ -2,6 +2,7 @@ use Rattle.std.proofs.Common.{◌≡◌, Ok, Err, Some, false, refl, ap, sym, su
 use Rattle.std.specs.Prelude.{All, IfOk}
 use Rattle.tp_run.proofs.Lower.{State, held_of, verdict, World, reopened, Began, NodeState, Network}
 use Rattle.tp_run.specs.declared.fault.RunFault.TheVariants.{Memory}
+use Rattle.tp_run.specs.HandedOver.{HandedOver}
 use Rattle.tp_run.specs.Input.{input_slips}
 use Rattle.tp_run.specs.Outset.{outset_in}
 use Rattle.tp_run.specs.declared.outset.Outset.{Outset}
@@ -49,8 +50,9 @@ returns-clause-called g c k began =
     subst (λ (s : Network NodeState). IfOk done (Settled start s job (outset_in opened job.port) (input_slips (outset_in opened job.port) input) was.taken now.taken new.world.journal)) c.requires.network
     (subst (λ u. IfOk done (Settled start g.J.Naming.start job u (input_slips u input) was.taken now.taken new.world.journal)) c.requires.outset (c.use_up-flusher.ensures.settled k first)) in
     let shown = subst (λ (u : Outset). MayPrint start old new u.port u.confirmed was now done) c.requires.outset (c.use_up-flusher.ensures.shown k first) in
+    let handed = subst (λ (u : Outset). HandedOver start new.world.journal u input was.taken now.taken) c.requires.outset (c.use_up-flusher.ensures.handed k first) in
     let ran : RanInto start job input was now done old.state new.state =
-    served_ran c.stored_slips_are_recovered.ensures start before opened job input was now old new done there reads world (c.use_up-flusher.ensures.walks k first) c.use_up-flusher.ensures.stored settled shown in
+    served_ran c.stored_slips_are_recovered.ensures start before opened job input was now old new done there reads world (c.use_up-flusher.ensures.walks k first) c.use_up-flusher.ensures.stored settled shown handed in
     subst (λ s. RanInto start job input was now done (g.D.Disk.state c.args.store.disk) s) (sym c.into_disk-2.ensures.state) (subst (λ s. RanInto start job input was now done s new.state) c.over-flusher.ensures.device.0 ran)
 
 -- ## What is left to do

@@ -1,4 +1,4 @@
-use Rattle.std.proofs.Common.{◌≡◌, ◌≤◌, ℕ, ◌++◌, inl, Err, rules, refl, sym, ap, subst, ◌∙◌, arith}
+use Rattle.std.proofs.Common.{◌≡◌, ◌≤◌, ℕ, ◌++◌, inl, inr, Err, rules, refl, sym, ap, subst, ◌∙◌, arith}
 use Rattle.std.specs.Prelude.{IfOk, flat_map, IfErr}
 use Rattle.tp_run.proofs.Lower.{IfOk-weaker, Began, Flushing, Walked, position, ReceiptValue, walked_then, AreAll, Seat}
 use Rattle.tp_run.specs.declared.fault.RunFault.TheVariants.{FlushFailed, LastFlushFailed}
@@ -6,7 +6,7 @@ use Rattle.tp_run.specs.Failures.{CountsFailures, has_failed}
 use Rattle.tp_run.specs.Faults.{ComesBehind, IsSilent}
 use Rattle.tp_run.specs.Prints.{MayBeSilent}
 use Rattle.tp_run.specs.Ran.{Settled}
-use Rattle.tp_run.specs.Shown.{MayPrint}
+use Rattle.tp_run.specs.Shown.{LeadsToOutputs, MayPrint}
 use Rattle.tp_run.proofs.Shown.{done_as, done_says, fault_of, fault_says, may_print, may_print_last, shows_on, walked_reached}
 use Rattle.tp_run.proofs.Gathered.{accounted_for, all_settled}
 use Rattle.tp_run.proofs.Failures.{failures_then}
@@ -100,9 +100,49 @@ returns-clause-settled g c k began =
     let last = subst (Began start g.J.Naming.before) (sym c.flush_upto-2.ensures.process.opened) later in
     subst (λ (f : Flushing). IfOk c.settle.result (Settled start g.J.Naming.start c.args.job c.args.outset c.args.host was now f.world.journal)) (sym S.same)
     (all_settled c.settle.result next _ _ S.next (S.all k last)
-    (λ all. host_settled start g.J.Naming.start c.args.job c.args.outset _ was now two.world.journal next c.args.host host c.in_ok-confirmed.confirmed O shows c.number-next.ensures (S.stand k last)
+    (λ all. host_settled start g.J.Naming.start c.args.job c.args.outset _ was now two.world.journal next c.args.host host c.args.key.now c.print.new.key c.in_ok-confirmed.confirmed O shows c.number-next.ensures (S.stand k last)
     (accounted_for g.J.Naming.start c.args.job two.world.journal c.args.outset.next next (λ (seat : Seat g.row.J.Denot). seat.slips) c.args.seats.items host
     (sym c.args.seats.ok.0 ∙ c.requires.count) c.requires.seats (subst (λ n. AreAll n next two.world.journal (host ++ flat_map (λ (seat : Seat g.row.J.Denot). seat.slips) c.args.seats.items)) (sym c.requires.first) all))))
+
+-- ## What is handed in
+
+pub returns-in_err-mark-clause-handed : goal.returns-in_err-mark-clause-handed
+returns-in_err-mark-clause-handed g c k began = inl refl
+
+pub returns-in_err-confirmed-clause-handed : goal.returns-in_err-confirmed-clause-handed
+returns-in_err-confirmed-clause-handed g c k began = inl c.in_err-confirmed.ensures.err.1
+
+pub returns-in_err-_mark-clause-handed : goal.returns-in_err-_mark-clause-handed
+returns-in_err-_mark-clause-handed g c k began =
+    let start = g.J.Naming.formatted in
+    let one = c.flush_upto.new.flusher in
+    let two = c.flush_upto-2.new.flusher in
+    let O = c.in_ok-confirmed.ensures.receipt in
+    let there = subst (Began start g.J.Naming.before) (sym c.flush_upto.ensures.process.opened) began in
+    let later = subst (λ (f : Flushing). Began start g.J.Naming.before f.opened) (sym c.print.ensures.same) there in
+    let walked = subst (λ (f : Flushing). Walked f two) c.print.ensures.same (c.flush_upto-2.ensures.walks k later) in
+    let reached = walked_reached start c.args.flusher.now one (c.known.ensures.reached k began) (c.flush_upto.ensures.walks k began) in
+    let shows = (shows_on start one two reached walked c.args.outset.port c.args.outset.confirmed O.confirmed.first O.printed (O.are k there)).1 in
+    inr (record { printed = O.printed; taken = O.appended; number = O.confirmed.first; shows = shows; handed = O.handed })
+
+pub returns-clause-handed : goal.returns-clause-handed
+returns-clause-handed g c k began =
+    let start = g.J.Naming.formatted in
+    let one = c.flush_upto.new.flusher in
+    let two = c.flush_upto-2.new.flusher in
+    let O = c.in_ok-confirmed.ensures.receipt in
+    let there = subst (Began start g.J.Naming.before) (sym c.flush_upto.ensures.process.opened) began in
+    let later = subst (λ (f : Flushing). Began start g.J.Naming.before f.opened) (sym c.print.ensures.same) there in
+    let walked = subst (λ (f : Flushing). Walked f two) c.print.ensures.same (c.flush_upto-2.ensures.walks k later) in
+    let reached = walked_reached start c.args.flusher.now one (c.known.ensures.reached k began) (c.flush_upto.ensures.walks k began) in
+    let shows = (shows_on start one two reached walked c.args.outset.port c.args.outset.confirmed O.confirmed.first O.printed (O.are k there)).1 in
+    inr (record {
+      printed = O.printed;
+      taken = O.appended;
+      number = O.confirmed.first;
+      shows = subst (λ (f : Flushing). LeadsToOutputs start f.world.journal O.confirmed.first c.args.outset.port c.args.outset.confirmed O.printed) (sym c.settle.ensures.same) shows;
+      handed = O.handed;
+    })
 
 -- ## How it ended
 

@@ -7,6 +7,7 @@ use Rattle.tp_run.specs.Ran.{Settled}
 use Rattle.tp_run.specs.Worked.{Worked, idle}
 use Rattle.tp_run.proofs.Failures.{counted, failures_then, uncounted}
 use Rattle.tp_run.proofs.Faults.{behind_begun_of, behind_unrefused_of, offer_begun, offer_silent, offer_unfailed}
+use Rattle.tp_run.proofs.HandedOver.{hands_in}
 use Rattle.tp_run.proofs.Shown.{may_print_since}
 use Rattle.tp_run.proofs.serving.serve.Goals as goal
 
@@ -31,6 +32,18 @@ returns-clause-shown g c k began =
     let there = subst (Began g.J.Naming.formatted g.J.Naming.before) (sym c.work-flusher.ensures.process.opened) began in
     may_print_since g.J.Naming.formatted c.args.flusher c.work-flusher.result.0 c.finish-done.new.flusher (c.known.ensures.reached k began) (c.work-flusher.ensures.walks k began)
     (c.finish-done.ensures.walks k there) c.args.outset.port c.args.outset.confirmed (g.O.Outlet.value c.args.out.now) (g.O.Outlet.value c.finish-done.new.out) c.finish-done.result (c.finish-done.ensures.shown k there)
+
+-- ## What is handed in
+
+pub returns-in-Err-clause-handed : goal.returns-in-Err-clause-handed
+returns-in-Err-clause-handed g c k began = inl (c.in-Err.ensures.err.1 ∙ c.requires.key)
+
+pub returns-clause-handed : goal.returns-clause-handed
+returns-clause-handed g c k began =
+    let start = g.J.Naming.formatted in
+    hands_in start c.finish-done.new.flusher.world.journal c.args.outset c.args.input.now (g.O.Outlet.value c.args.out.now).taken (g.O.Outlet.value c.finish-done.new.out).taken c.args.key.now
+    c.offer.new.key c.finish-done.new.key c.requires.key c.in-Ok.ensures.receipt.handed
+    (c.finish-done.ensures.handed k (subst (Began start g.J.Naming.before) (sym c.work-flusher.ensures.process.opened) began))
 
 -- ## Who made what
 
