@@ -1,9 +1,12 @@
 //! A device that is written is held: one process at a time has it.
 
+ghost use Rattle.std.specs.Prelude.{is_ok};
+ghost use Rattle.tpnet.specs.Tries.{IsTriedFor};
+
+use crate::file_lock::{FileLock, TriedLock};
 use std::fs::{File, Files, OpenFile, OpenOptions, TryLockError};
 use std::os::unix::fs::MetadataExt;
-use std::thread::sleep;
-use std::time::{Clock, Duration};
+use std::time::Clock;
 use std::{fs, io};
 use tp_program::{Held, InUse, Locks, is_openable};
 
@@ -16,16 +19,16 @@ const PAUSE: u64 = 1000 / TRIES;
 /// How many times it is tried again at least: `status` and `stop` hold a device for a moment, and a script may call them without a pause.
 const LEAST: u64 = 5;
 
-/// Takes the lock of a file. While another process has it, tries again for `seconds`, and `LEAST` times at least.
-/// A file of a system that knows no locks has none.
-fn lock_file<R: Clock>(rt: &R, file: &File, seconds: u32) -> Result<(), InUse> {
-    for turn in 0..=(u64::from(seconds) * TRIES).max(LEAST) {
-        if turn > 0 {
-            sleep(rt, Duration::from_millis(PAUSE));
-        }
-        match file.try_lock() {
-            Err(TryLockError::WouldBlock) => {}
-            _ => return Ok(()),
+/// Takes a lock. While another process has it, tries again for `seconds`, and `LEAST` times at least.
+fn lock_file<L: TriedLock>(lock: &mut L, seconds: u32) -> Result<(), InUse>
+    ensures { IsTriedFor seconds (is_ok result) (L.answers lock.old) (L.answers lock.new) (L.pauses lock.old) (L.pauses lock.new) }
+{
+    if !lock.is_taken(None) {
+        return Ok(());
+    }
+    for _ in 0..(u64::from(seconds) * TRIES).max(LEAST) {
+        if !lock.is_taken(Some(PAUSE)) {
+            return Ok(());
         }
     }
     Err(InUse)
@@ -53,7 +56,7 @@ fn hold_file<R: Files<File = File> + Clock>(
     let mut how = OpenOptions::new();
     match how.read(true).write(true).open(rt, device) {
         Ok(file) => {
-            lock_file(rt, &file, seconds)?;
+            lock_file(&mut FileLock::new(rt, &file), seconds)?;
             Ok(Found::Locked(file))
         }
         Err(error) if error.kind() == io::ErrorKind::NotFound => Ok(Found::Nothing),

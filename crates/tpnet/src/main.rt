@@ -3,6 +3,7 @@
 
 mod apart;
 mod backlog;
+mod file_lock;
 mod holding;
 mod late;
 mod looking;
