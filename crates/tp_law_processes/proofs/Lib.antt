@@ -1,8 +1,10 @@
 pub mod Lower
+mod Changes
 mod FreshPorts
 mod Histories
 mod Joined
 mod Outputs
 mod Parts
+mod Queue
 mod Shows
 mod Stops

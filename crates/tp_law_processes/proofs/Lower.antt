@@ -1,6 +1,7 @@
 -- What proofs here name of the crates below.
 pub use Rattle.std.proofs.Math.Seq.{drop-append-add, take-append-add}
 pub use Rattle.std.proofs.lemmas.Bool.{and_parts, cases_eq, cases_lt, leb-true, ltb-true}
+pub use Rattle.std.proofs.lemmas.Grind.{flat_map-append}
 pub use Rattle.std.proofs.lemmas.List.{drop_all, get_or_past, length-take-le, nil_from_length, take-append-drop, take-append-le, take-take, take_all}
 pub use Rattle.std.proofs.lemmas.Option.{cond_some, get_or_from_slice_get, slice_get_cases}
 pub use Rattle.std.specs.List.{AllByRecursion}
@@ -13,7 +14,7 @@ pub use Rattle.tp_model.specs.Device.{area_start, content_of}
 pub use Rattle.tp_model.specs.DeviceAreas.{device_areas}
 pub use Rattle.tp_model.specs.Disk.{MayBe, Moment}
 pub use Rattle.tp_model.specs.DiskHistory.{LeavesOnly, MayHaveLeft, SomeMay, State, moment}
-pub use Rattle.tp_model.specs.Entries.{HasFourLinks, acked, confirmed, handed_in, of_node, port_took}
+pub use Rattle.tp_model.specs.Entries.{HasFourLinks, acked, confirmed, handed_in, in_flight, of_node, port_took}
 unfoldable pub use Rattle.tp_model.specs.Entries.{does, next, of_port, process, receives}
 unfoldable pub use Rattle.tp_model.specs.Flight.{flights_in}
 pub use Rattle.tp_model.specs.Network.{Machine, Network, OfHost, OfNode, Own, Port, has_wire, receiver}

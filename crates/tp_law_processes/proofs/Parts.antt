@@ -1,9 +1,9 @@
 -- What entries lead to as a port's outputs is a part of what the journal puts out there.
 use Rattle.std.proofs.Common.{◌≡◌, ℕ, zero, suc, ◌+◌, ◌-◌, ◌≤◌, inl, inr, List, [], ◌∷◌, ◌++◌, length, take, drop, Some, refl, sym, ap, subst, ◌∙◌, arith, append_assoc}
 use Rattle.std.specs.Prelude.{slice_get}
-use Rattle.tp_law_processes.proofs.Lower.{get_or_past, take-append-drop, take-append-le, get_or_from_slice_get, slice_get_cases, drop-append-add, Entry, NodeState, t414, Network, Port, device_areas, World, BeginsFormatted, fresh_value, has_four_links, after_shape, LeadsToBytes, port_or_fresh}
-use Rattle.tp_law_processes.specs.Outputs.{bytes_out}
-use Rattle.tp_law_processes.proofs.Outputs.{after_grown, bytes_out-append}
+use Rattle.tp_law_processes.proofs.Lower.{flat_map-append, get_or_past, take-append-drop, take-append-le, get_or_from_slice_get, slice_get_cases, drop-append-add, Entry, NodeState, t414, Network, Port, device_areas, World, BeginsFormatted, fresh_value, has_four_links, after_shape, LeadsToBytes, port_or_fresh}
+use Rattle.tp_law_processes.specs.Outputs.{byte_out, bytes_out}
+use Rattle.tp_law_processes.proofs.Outputs.{after_grown}
 use Rattle.tp_law_processes.proofs.FreshPorts.{formatted_port}
 
 -- ## Lists
@@ -54,7 +54,7 @@ module _ (start : Network NodeState) (first : World NodeState) (formatted : Begi
       grown ∙ grew.are ∙ ap (λ (p : Port). grew.gone ++ p.outputs) (sym here) in
       let all : bytes_out start.wires port journal ≡ grew.gone ++ (outputs ++ rest) =
       ap (bytes_out start.wires port) (sym (take-append-drop number journal))
-      ∙ bytes_out-append start.wires port front (drop number journal)
+      ∙ flat_map-append (byte_out start.wires port) front (drop number journal)
       ∙ ap (λ xs. xs ++ rest) out
       ∙ append_assoc grew.gone outputs rest in
       let few : length bytes ≤ length (drop behind outputs) = subst (λ xs. length xs ≤ length (drop behind outputs)) (sym L.are) (take_few (length bytes) (drop behind outputs)) in

@@ -2,3 +2,4 @@ pub mod Lower
 pub mod OneHistory
 pub mod Outputs
 pub mod Processes
+pub mod Queue

@@ -1,6 +1,7 @@
 -- All that a port has put out, by the entries alone.
-use Rattle.std.specs.Prelude.{◌≡◌, ℕ, ◌+◌, if◌then◌else◌, List, [], ◌∷◌, ◌++◌, length, Option}
+use Rattle.std.specs.Prelude.{ℕ, if◌then◌else◌, List, [], ◌∷◌, flat_map, Option}
 use Rattle.tp_law_processes.specs.Lower.{Data, Ack, Marker, WireEnd, Entry, Run, Take, HostIn, Confirm, Turn, Port, receiver, is_at}
+use Rattle.tp_law_processes.specs.Queue.{Moved}
 
 -- the byte that comes out of port p by an entry, if one does
 abbrev pub byte_out : List (Option WireEnd) → ℕ → Entry → List ℕ
@@ -13,12 +14,9 @@ byte_out wires p (Confirm q upto) = []
 byte_out wires p (Turn i links k) = []
 
 -- all bytes that come out of port p by entries, in order
-unfoldable pub bytes_out : List (Option WireEnd) → ℕ → List Entry → List ℕ
-bytes_out wires p [] = []
-bytes_out wires p (e ∷ es) = byte_out wires p e ++ bytes_out wires p es
+abbrev pub bytes_out : List (Option WireEnd) → ℕ → List Entry → List ℕ
+bytes_out wires p es = flat_map (byte_out wires p) es
 
 -- Bytes came out of a port, after those that it had; some of the first ones are confirmed, and the others are there.
-pub record Grew (more : List ℕ) (before later : Port) : Type 0 where
-  pub gone : List ℕ
-  pub base : later.out_base ≡ before.out_base + length gone
-  pub are : before.outputs ++ more ≡ gone ++ later.outputs
+abbrev pub Grew : List ℕ → Port → Port → Type 0
+Grew more before later = Moved more before.out_base before.outputs later.out_base later.outputs
