@@ -2,6 +2,7 @@ pub mod Lower
 mod Changes
 mod FreshPorts
 mod Histories
+mod Inputs
 mod Joined
 mod Outputs
 mod Parts

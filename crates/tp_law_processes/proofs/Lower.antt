@@ -3,7 +3,7 @@ pub use Rattle.std.proofs.Math.Seq.{drop-append-add, take-append-add}
 pub use Rattle.std.proofs.lemmas.Bool.{and_parts, cases_eq, cases_lt, leb-true, ltb-true}
 pub use Rattle.std.proofs.lemmas.Grind.{flat_map-append}
 pub use Rattle.std.proofs.lemmas.List.{drop_all, get_or_past, length-take-le, nil_from_length, take-append-drop, take-append-le, take-take, take_all}
-pub use Rattle.std.proofs.lemmas.Option.{cond_some, get_or_from_slice_get, slice_get_cases}
+pub use Rattle.std.proofs.lemmas.Option.{cond_some, get_or_from_slice_get, slice_get_cases, slice_get_within}
 pub use Rattle.std.specs.List.{AllByRecursion}
 pub use Rattle.std.specs.Option.{option_map}
 pub use Rattle.tp_model.specs.Areas.{Held, next_number}

@@ -1,3 +1,4 @@
+pub mod Inputs
 pub mod Lower
 pub mod OneHistory
 pub mod Outputs

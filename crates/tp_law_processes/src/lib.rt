@@ -1,10 +1,11 @@
 //! Laws of processes over one device, one after the other. The functions do nothing; their contracts are the laws.
 #![tactic(auto)]
 
-ghost use Rattle.std.specs.Prelude.{◌≡◌, ℕ, List, Some, Ok, slice_get};
+ghost use Rattle.std.specs.Prelude.{◌≡◌, ◌≤◌, ℕ, List, [], length, Some, Ok, slice_get};
 ghost use Rattle.tp_law_processes.specs.Lower.{Entry, NodeState, t414, Network, Port, after, device_areas, Opened, next_of, verdict, World, BeginsFormatted, Began};
 ghost use Rattle.tp_law_processes.specs.Processes.{AreInOrder, Process};
 ghost use Rattle.tp_law_processes.specs.OneHistory.{OneHistory};
+ghost use Rattle.tp_law_processes.specs.Inputs.{TookIn, bytes_in};
 ghost use Rattle.tp_law_processes.specs.Outputs.{Grew, bytes_out};
 
 /// What comes out of a port is what the entries say, in order: after what it had there come the bytes of the entries. The first ones of all these are
@@ -12,6 +13,15 @@ ghost use Rattle.tp_law_processes.specs.Outputs.{Grew, bytes_out};
 pub fn ports_put_out()
     ensures { (s t : Network NodeState) (es : List Entry) → after t414 s es ≡ Some t → (p : ℕ) (port : Port) → slice_get s.ports p ≡ Some port
         → (later : Port) × (slice_get t.ports p ≡ Some later) × Grew (bytes_out s.wires p es) port later }
+{}
+
+/// What a port accepts is what the host's entries hand to it, in order, each byte once: after what it had pending come the bytes of the entries. The
+/// first ones of all these have arrived, as many as its `in_base` has grown by, and the others are pending. No entry hands a byte to a port that isn't
+/// there.
+pub fn ports_take_in()
+    ensures taken { (s t : Network NodeState) (es : List Entry) → after t414 s es ≡ Some t → (p : ℕ) (port : Port) → slice_get s.ports p ≡ Some port
+        → (later : Port) × (slice_get t.ports p ≡ Some later) × TookIn (bytes_in p es) port later }
+    ensures absent { (s t : Network NodeState) (es : List Entry) → after t414 s es ≡ Some t → (p : ℕ) → length s.ports ≤ p → bytes_in p es ≡ [] }
 {}
 
 /// However many processes open a device, one after the other, each finds what the one before it left when it ended, or when a crash stopped it at any
