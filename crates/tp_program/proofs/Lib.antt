@@ -1,4 +1,5 @@
 pub mod Lower
+mod Apart
 pub mod NoMaps
 mod Commands
 pub mod Ends

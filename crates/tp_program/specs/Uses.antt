@@ -1,5 +1,5 @@
 -- What commands print, and do with files other than the devices that they write.
-use Rattle.std.specs.Prelude.{◌≡◌, ◌⊎◌, ◌≤◌, ◌++◌, ◌∷◌, ◌==◌, if◌then◌else◌, option_map, unwrap_or, ℕ, Bool, true, List, [], codes, map, length, string_bytes, Option, Some, None, IsErr, IsSome, Ok}
+use Rattle.std.specs.Prelude.{◌≡◌, ◌⊎◌, ◌≤◌, ◌++◌, ◌∷◌, ◌==◌, if◌then◌else◌, option_map, unwrap_or, ℕ, Bool, true, List, [], codes, map, length, string_bytes, Option, Some, None, All, IsErr, IsSome, Ok}
 use Rattle.tp_program.specs.Lower.{Appends, Global, String, Formatted, IsOldOrNew, LeavesOnly, State, start_of, node_of, areas_of_length, version_for, Opened, verdict, Topology, read_text, node_names, PortFile, LeavesNothingNew, fresh_image, PrintsTrial, wanted_area, topology_said, device_text, device_traced, AppendsFront, PrintsFront, StatusTells, Maps, Row, no_maps, read_map, rows_of, Prints, look_text, Traces, node_traced, place_of, range_of, HasNone, LacksShown, PrintsShown, PrintsView, view_text, Seen, Stops, NewDevice, ImageTrace, TracePart, View}
 use Rattle.tp_program.specs.Backups.{IsBackup, copied_line}
 use Rattle.tp_program.specs.Devices.{DeviceCall, Begins, Leaves, Links, Looks, Reads, Requests, WasRefused}
@@ -160,22 +160,40 @@ abbrev pub FormattedNetwork : (keeps : Type 0) → (device : List ℕ) → (area
 FormattedNetwork keeps device area found images old new was now status =
     WasUnbegun was now status ⊎ BeginsOne device old new (FormattedBetween keeps found images area was now status)
 
--- The images for a text were read, and a device was begun and formatted for them.
-pub record FormattedFor (keeps : Type 0) (text folder device : List ℕ) (area : Option ℕ) (old new : List DeviceCall) (was now : Option (List ℕ)) (status : ℕ) : Type 0 where
+-- the paths of the files that a device is made from: that of its topology, and that of each node's image
+abbrev pub sources_of : (topology folder : List ℕ) → (names : List (List ℕ)) → List (List ℕ)
+sources_of topology folder names = topology ∷ map (image_of folder) names
+
+-- A device's path is none of these.
+abbrev pub IsApart : (device : List ℕ) → (paths : List (List ℕ)) → Type 0
+IsApart device paths = All (λ path. device ≡ path → ⊥) paths
+
+-- A device was begun at none of these paths, and formatted.
+pub record FormattedApart (keeps : Type 0) (sources : List (List ℕ)) (device : List ℕ) (area : Option ℕ) (found : Topology) (images : List (List ℕ)) (old new : List DeviceCall) (was now : Option (List ℕ)) (status : ℕ) : Type 0 where
+  pub apart : IsApart device sources
+  pub made : BeginsOne device old new (FormattedBetween keeps found images area was now status)
+
+-- Either the command was refused before it began a device, or it began one at none of these paths, and formatted it.
+abbrev pub FormattedNamed : (keeps : Type 0) → (sources : List (List ℕ)) → (device : List ℕ) → (area : Option ℕ) → Topology → (images : List (List ℕ)) → (old new : List DeviceCall) → (was now : Option (List ℕ)) → ℕ → Type 0
+FormattedNamed keeps sources device area found images old new was now status =
+    WasUnbegun was now status ⊎ FormattedApart keeps sources device area found images old new was now status
+
+-- The images for a text were read, and a device was begun and formatted for them. It isn't at the path of the text's file, or of an image's.
+pub record FormattedFor (keeps : Type 0) (text topology folder device : List ℕ) (area : Option ℕ) (old new : List DeviceCall) (was now : Option (List ℕ)) (status : ℕ) : Type 0 where
   pub found : Topology
   pub images : List (List ℕ)
   pub mid : List DeviceCall
   pub read : ReadsImages text folder old mid found images
-  pub made : BeginsOne device mid new (FormattedBetween keeps found images area was now status)
+  pub made : FormattedApart keeps (sources_of topology folder (node_names text)) device area found images mid new was now status
 
-abbrev pub FormattedText : (keeps : Type 0) → (text folder device : List ℕ) → (area : Option ℕ) → (old new : List DeviceCall) → (was now : Option (List ℕ)) → ℕ → Type 0
-FormattedText keeps text folder device area old new was now status =
-    WasUnbegun was now status ⊎ FormattedFor keeps text folder device area old new was now status
+abbrev pub FormattedText : (keeps : Type 0) → (text topology folder device : List ℕ) → (area : Option ℕ) → (old new : List DeviceCall) → (was now : Option (List ℕ)) → ℕ → Type 0
+FormattedText keeps text topology folder device area old new was now status =
+    WasUnbegun was now status ⊎ FormattedFor keeps text topology folder device area old new was now status
 
 -- That is so for the text in a file.
 pub record FormattedFrom (keeps : Type 0) (topology folder device : List ℕ) (area : Option ℕ) (old new : List DeviceCall) (was now : Option (List ℕ)) (status : ℕ) : Type 0 where
   pub text : List ℕ
-  pub made : FormattedFor keeps text folder device area (old ++ Reads topology text ∷ []) new was now status
+  pub made : FormattedFor keeps text topology folder device area (old ++ Reads topology text ∷ []) new was now status
 
 abbrev pub FormattedFile : (keeps : Type 0) → NewDevice → (old new : List DeviceCall) → (was now : Option (List ℕ)) → ℕ → Type 0
 FormattedFile keeps device old new was now status =

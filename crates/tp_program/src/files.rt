@@ -137,6 +137,7 @@ pub(crate) fn read_network<'a, R: Files + AllocGlobal, S: Devices>(
     folder: &str,
 ) -> Result<(Named<'a>, Vec<Vec<u8>>), Refusal>
     ensures topology { IfOk result (λ found. read_text text.now ≡ Ok found.0.topology) }
+    ensures names { IfOk result (λ found. map (λ name. name.now) found.0.names.items ≡ node_names text.now) }
     ensures all { IfOk result (λ found. length found.1.items ≡ length (node_names text.now)) }
     ensures read { IfOk result (λ found. S.uses devices.new ≡ S.uses devices.old ++ images_read folder.now (node_names text.now) (map (λ image. image.items) found.1.items)) }
     ensures uncalled { S.calls devices.new ≡ S.calls devices.old }

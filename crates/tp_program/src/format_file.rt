@@ -1,9 +1,9 @@
 //! `tpnet format`, on files.
 
-ghost use Rattle.std.specs.Prelude.{◌≡◌, ◌≤◌, ◌++◌, ◌∷◌, [], true, Some, IfOk, IfSome, map, string_bytes};
+ghost use Rattle.std.specs.Prelude.{◌≡◌, ◌≤◌, ◌++◌, ◌∷◌, [], true, Some, IfNone, IfOk, IfSome, map, string_bytes};
 ghost use Rattle.tp_program.specs.Lower.{areas_end, areas_of_length, is_topology, MAX_AREA};
 ghost use Rattle.tp_program.specs.Devices.{Begins, MadeAtMost, path_held};
-ghost use Rattle.tp_program.specs.Uses.{FormattedFile, FormattedNetwork, FormattedText};
+ghost use Rattle.tp_program.specs.Uses.{FormattedFile, FormattedNamed, FormattedNetwork, FormattedText, IsApart, image_of, sources_of};
 
 use crate::devices::{Devices, Made};
 use crate::files::{image_path, read_network, read_source};
@@ -25,7 +25,9 @@ fn image_replaced<R: Files + AllocGlobal>(
     rt: &R,
     new: &NewDevice,
     names: &[&str],
-) -> Result<Option<String>, Refusal> {
+) -> Result<Option<String>, Refusal>
+    ensures { IfOk result (λ found. IfNone found (IsApart (string_bytes new.now.device) (map (image_of (string_bytes new.now.images)) (map (λ name. name.now) names.now)))) }
+{
     for node in names {
         let path = image_path(rt.alloc(), new.images.as_str(), node)?;
         if is_one_file(rt, new.device.as_str(), path.as_str()) {
@@ -56,6 +58,7 @@ fn refuse_sources<R: Files + AllocGlobal, E: Write>(
 ) -> Option<u8>
     ensures few { IfSome result (λ status. status ≤ 2) }
     ensures refused { IfSome result (λ status. 1 ≤ status) }
+    ensures apart { IfNone result (IsApart (string_bytes new.now.device) (sources_of (string_bytes new.now.topology) (string_bytes new.now.images) (map (λ name. name.now) names.now))) }
 {
     let (device, topology) = (new.device.as_str(), new.topology.as_str());
     if is_one_file(rt, device, topology) {
@@ -202,7 +205,7 @@ fn format_named<R: Files + AllocGlobal, S: Devices<New = N>, N: Disk + Drop, O: 
     requires held { S.held devices.old ≡ Some (string_bytes new.now.device) }
     ensures few { result ≤ 2 }
     ensures made { MadeAtMost (string_bytes new.now.device) (S.calls devices.old) (S.calls devices.new) }
-    ensures formatted { FormattedNetwork N.keeps (string_bytes new.now.device) new.now.area named.now.topology (map (λ image. image.items) images.now) (S.uses devices.old) (S.uses devices.new) (O.contents out.old) (O.contents out.new) result }
+    ensures formatted { FormattedNamed N.keeps (sources_of (string_bytes new.now.topology) (string_bytes new.now.images) (map (λ name. name.now) named.now.names.items)) (string_bytes new.now.device) new.now.area named.now.topology (map (λ image. image.items) images.now) (S.uses devices.old) (S.uses devices.new) (O.contents out.old) (O.contents out.new) result }
 {
     if let Some(status) = refuse_sources(rt, new, named.names.as_slice(), err) {
         return status;
@@ -225,7 +228,7 @@ fn format_text<R: Files + AllocGlobal, S: Devices<New = N>, N: Disk + Drop, O: W
     requires held { S.held devices.old ≡ Some (string_bytes new.now.device) }
     ensures few { result ≤ 2 }
     ensures made { MadeAtMost (string_bytes new.now.device) (S.calls devices.old) (S.calls devices.new) }
-    ensures formatted { FormattedText N.keeps text.now (string_bytes new.now.images) (string_bytes new.now.device) new.now.area (S.uses devices.old) (S.uses devices.new) (O.contents out.old) (O.contents out.new) result }
+    ensures formatted { FormattedText N.keeps text.now (string_bytes new.now.topology) (string_bytes new.now.images) (string_bytes new.now.device) new.now.area (S.uses devices.old) (S.uses devices.new) (O.contents out.old) (O.contents out.new) result }
 {
     match read_network(rt, devices, text, new.images.as_str()) {
         Ok((named, images)) => {
