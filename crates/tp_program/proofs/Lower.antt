@@ -1,5 +1,4 @@
 -- What proofs here name of the crates below.
-pub use Rattle.std.specs.Option.{option_map}
 pub use Rattle.std.specs.declared.alloc.Global.{Global}
 pub use Rattle.std.specs.declared.string.String.{String}
 pub use Rattle.tp_model.specs.Bytes.{u64_at}
@@ -16,8 +15,8 @@ pub use Rattle.tp_area.proofs.OtherArea.{own_open}
 pub use Rattle.tp_area.proofs.Placed.{is_placed, place_lies}
 pub use Rattle.tp_area.specs.Places.{place_at}
 pub use Rattle.tp_area.specs.declared.front.AreaFront.{AreaFront}
-pub use Rattle.tp_recover.proofs.Areas.{area_front-part, generation_of-content}
-pub use Rattle.tp_recover.proofs.Leaving.{read_leaves, then_leaves}
+pub use Rattle.tp_recover.proofs.Areas.{generation_of-content}
+pub use Rattle.tp_recover.proofs.Leaving.{then_leaves}
 pub use Rattle.tp_recover.specs.Copies.{CopyAnswer, HasStayed, IsCopy, area_kept, kept_start}
 pub use Rattle.tp_recover.specs.declared.unopened.Unopened.{Unopened}
 pub use Rattle.tp_stream_files.specs.declared.ending.Ended.{Ended}

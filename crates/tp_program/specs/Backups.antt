@@ -1,7 +1,6 @@
 -- What `backup` makes and prints.
-use Rattle.std.specs.Prelude.{◌≡◌, ℕ, List, [], ◌∷◌, ◌++◌, true, codes, Ok, Option}
-use Rattle.tp_program.specs.Lower.{decimal, Appends, IsCopy, area_kept, CopyFault, NotRead, NotWritten, NoMemory, Refusal, ReadFailed, DeviceFailed, Memory, Moment, Opened, verdict, area_front, kept_start}
-use Rattle.tp_program.specs.declared.staying.CopiedArea.{CopiedArea}
+use Rattle.std.specs.Prelude.{◌≡◌, ℕ, List, [], ◌∷◌, ◌++◌, codes, Ok, Option}
+use Rattle.tp_program.specs.Lower.{decimal, Appends, IsCopy, area_kept, CopyFault, NotRead, NotWritten, NoMemory, Refusal, ReadFailed, DeviceFailed, Memory, Moment, Opened, verdict}
 
 -- the line that is printed of a copy: the number of its next entry
 abbrev pub copied_line : ℕ → List ℕ
@@ -13,20 +12,6 @@ pub record IsBackup (source before : List ℕ) (copy : Moment) (next : ℕ) : Ty
   pub opened : Opened
   pub is : verdict source ≡ Ok opened
   pub copied : IsCopy (area_kept opened) source before copy next
-
--- the area of an opened device that is copied
-abbrev pub copied_area : Opened → CopiedArea
-copied_area o = record { start = kept_start (area_kept o); generation = o.generation }
-
--- An area has its gate open, and its generation.
-abbrev pub HasArea : CopiedArea → List ℕ → Type 0
-HasArea area bytes = area_front area.start bytes ≡ record { is_open = true; generation = area.generation }
-
--- A device with these bytes opens to this area.
-pub record OpensTo (bytes : List ℕ) (area : CopiedArea) : Type 0 where
-  pub opened : Opened
-  pub is : verdict bytes ≡ Ok opened
-  pub same : area ≡ copied_area opened
 
 -- The text is the line of a copy.
 pub record IsCopiedLine (text : List ℕ) : Type 0 where

@@ -24,7 +24,6 @@ mod request_file;
 mod rights;
 mod run_file;
 mod running;
-mod staying;
 mod stop_file;
 mod stream_explain;
 mod stream_program;
@@ -33,7 +32,7 @@ mod trace_files;
 mod watching;
 
 pub use asking::{Unasked, Unmade};
-pub use backing_up::{BackedUp, backup_on};
+pub use backing_up::backup_on;
 pub use backup_files::Undone;
 pub use compacting::compact_on;
 pub use devices::{Devices, FileDevices, Made};
@@ -43,7 +42,6 @@ pub use locks::{Held, InUse, Locks};
 pub use program::answer_over;
 pub use rights::Rights;
 pub use running::run_on;
-pub use staying::{AreaStayed, CopiedArea};
 pub use stop_file::StopFault;
 pub use streaming::{FilesFault, Streamed, stream_on};
 pub use tp_views::{
