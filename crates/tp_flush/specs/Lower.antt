@@ -57,7 +57,6 @@ pub use Rattle.tp_ready.specs.declared.mark_view.Rise.{Rise}
 pub use Rattle.tp_shared.specs.Below.{AreBelow}
 pub use Rattle.tp_shared.specs.CopiedTail.{CopiedTail}
 pub use Rattle.tp_shared.specs.Frozen.{keeps_pages, none_kept}
-pub use Rattle.tp_shared.specs.HandedIn.{handed}
 pub use Rattle.tp_shared.specs.Parted.{PartsValue}
 pub use Rattle.tp_shared.specs.Pieces.{AreFrozenPages, IsFrozenHead}
 pub use Rattle.tp_shared.specs.Told.{IsFirst, ToldSince}

@@ -1,7 +1,7 @@
 //! What the host has handed in, compared with the flusher's journal.
 
 ghost use Rattle.std.specs.Prelude.{◌≡◌, drop};
-ghost use Rattle.tp_flush.specs.Lower.{handed};
+ghost use Rattle.tp_shared.specs.HandedIn.{handed};
 ghost use Rattle.tp_flush.specs.Known.{Began};
 ghost use Rattle.tp_flush.specs.Settled.{HasFront};
 

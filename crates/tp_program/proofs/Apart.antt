@@ -1,8 +1,7 @@
 -- Devices at paths that no file has from which they are made.
 use Rattle.std.proofs.Common.{◌≡◌, ◌≤◌, ℕ, List, length, map, take, subst}
 use Rattle.std.specs.Prelude.{All}
-use Rattle.std.proofs.lemmas.List.{take_all}
-use Rattle.std.proofs.lemmas.List.Elements.{All-map}
+use Rattle.tp_program.proofs.Lower.{take_all, All-map}
 use Rattle.tp_program.specs.Uses.{IsApart, image_of}
 
 -- each image has another path

@@ -1,4 +1,6 @@
 -- What proofs here name of the crates below.
+pub use Rattle.std.proofs.lemmas.List.{take_all}
+pub use Rattle.std.proofs.lemmas.List.Elements.{All-map}
 pub use Rattle.std.specs.declared.alloc.Global.{Global}
 pub use Rattle.std.specs.declared.string.String.{String}
 pub use Rattle.tp_model.specs.Bytes.{u64_at}

@@ -3,8 +3,8 @@ pub use Rattle.std.specs.Io.{WritesAtMost}
 pub use Rattle.std.specs.Io.KnownBytes.{Appends, WriteAppends}
 pub use Rattle.std.specs.IoError.{error_kind}
 pub use Rattle.std.specs.List.{AllByRecursion, enumerate_from, list_all}
-pub use Rattle.tp_model.specs.DeviceAreas.{device_areas}
 pub use Rattle.tp_model.specs.Areas.{next_number}
+pub use Rattle.tp_model.specs.DeviceAreas.{device_areas}
 pub use Rattle.tp_model.specs.Disk.{MayBe}
 pub use Rattle.tp_model.specs.DiskHistory.{IsSynced, LeavesOnly, State, moment}
 pub use Rattle.tp_model.specs.Journal.{is_full_for_snapshot, is_roomy, room}

@@ -54,7 +54,6 @@ pub use Rattle.tp_work.specs.Receipts.{IsFor}
 pub use Rattle.tp_work.specs.declared.host_fault.ConfirmFault.{ConfirmFault}
 pub use Rattle.tp_work.specs.declared.host_fault.ConfirmFault.TheVariants.{JournalFull, Memory, NotShown, StoreBroken}
 pub use Rattle.tp_work.specs.declared.host_fault.OfferFault.{OfferFault}
-pub use Rattle.tp_work.specs.declared.start.TheConstants.{MAX_WORKERS}
 pub use Rattle.tp_work.specs.declared.turn.Turn.{Turn}
 pub use Rattle.tp_flush.specs.Due.{is_due}
 pub use Rattle.tp_flush.specs.Flushing.{Flushing, IsSameProcess, Walked, position}

@@ -9,9 +9,8 @@ use Rattle.tp_words.specs.declared.rows.Kind.{Kind}
 use Rattle.tp_words.specs.declared.rows.Kind.TheVariants as kind
 use Rattle.tp_words.specs.declared.words.Name.{Name}
 use Rattle.tp_words.specs.declared.words.Name.TheVariants as of
-use Rattle.tp_words.specs.declared.words.TheConstants.{COMMANDS}
 use Rattle.tp_words.specs.Given.{given, has_flag, value_in}
-use Rattle.tp_words.specs.Rows.{Row, command_text, rows_of}
+use Rattle.tp_words.specs.Rows.{Row, command_text, commands, rows_of}
 use Rattle.tp_words.specs.Typed.{is_word}
 
 -- the word is no place: it begins with a dash, and has more
@@ -157,7 +156,7 @@ is_lawful of.Trace true words = not (any_typed words (codes "in" ∷ codes "unti
 is_lawful of.Trace false words = not (has_lone_bytes words) && not (any_typed words (codes "from" ∷ codes "to" ∷ []))
 is_lawful _ has_last words = true
 
--- a line with so many places keeps a command's rules
+-- a line with as many places keeps a command's rules
 abbrev pub is_kept : Name → ℕ → List (String Global) → Bool
 is_kept name count words =
     nat_le (least_places (rows_of name)) count && nat_le count (most_places (rows_of name))
@@ -190,7 +189,7 @@ abbrev pub is_stream : List (String Global) → String Global → Bool
 is_stream words word = is_word (codes "run") word && has_flag (codes "--stream") words
 
 abbrev pub name_in : List (String Global) → String Global → Option Name
-name_in words word = if is_stream words word then Some of.Stream else named COMMANDS.now (string_bytes word)
+name_in words word = if is_stream words word then Some of.Stream else named commands (string_bytes word)
 
 abbrev pub taken_in : (words rest : List (String Global)) → Option Taken
 taken_in words [] = None

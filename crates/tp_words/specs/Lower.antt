@@ -2,7 +2,6 @@
 pub use Rattle.clap.specs.Words.{kind_of}
 pub use Rattle.clap.specs.declared.error.Error.{Error}
 pub use Rattle.clap.specs.declared.error.kind.ErrorKind.TheVariants.{DisplayHelp, DisplayVersion, OutOfMemory}
-pub use Rattle.std.specs.Borrow.{Bor}
 pub use Rattle.std.specs.Cmp.Lexicographic.{pointwise}
 pub use Rattle.std.specs.Fmt.{decimal}
 pub use Rattle.std.specs.List.{cons_option, list_any, starts_with}

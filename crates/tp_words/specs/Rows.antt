@@ -75,6 +75,11 @@ command_text of.Journal = codes "journal"
 command_text of.Port = codes "port"
 command_text of.Stream = codes "run"
 
+-- the commands but a stream
+abbrev pub commands : List Name
+commands = of.Try ∷ of.Trace ∷ of.Check ∷ of.Format ∷ of.Run ∷ of.Stop ∷ of.Compact ∷ of.Backup ∷ of.Recover ∷ of.Show ∷ of.Status ∷ of.Waits ∷ of.Node
+    ∷ of.Image ∷ of.Journal ∷ of.Port ∷ []
+
 -- each command has the two options for explanations
 abbrev pub explained : List Row → List Row
 explained rows = flag (codes "explain") ∷ flag (codes "no-explain") ∷ rows

@@ -1,6 +1,6 @@
 -- A number of bytes that was typed, as a decimal or with a letter after it.
 use Rattle.std.specs.Prelude.{◌≡◌, ◌≢◌, ◌≤◌, ◌*◌, ◌++◌, ℕ, List, [], Option, Some, None, IsSomeAnd, codes}
-use Rattle.tp_words.specs.Lower.{decimal}
+use Rattle.std.specs.Fmt.{decimal}
 use Rattle.tp_words.specs.declared.arg_fault.ArgFault.{ArgFault}
 use Rattle.tp_words.specs.declared.arg_fault.ArgFault.TheVariants.{Size, Memory}
 use Rattle.tp_words.specs.declared.args.TheConstants.{MAX_AREA}

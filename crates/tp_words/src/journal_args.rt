@@ -1,7 +1,7 @@
 //! The part of a journal that the command line asks for.
 
 ghost use Rattle.std.specs.Prelude.{◌≡◌, ◌≤◌, ◌<◌, [], IfErr, IfOk, IfSome, IsSomeAnd};
-ghost use Rattle.tp_words.specs.Lower.{decimal};
+ghost use Rattle.std.specs.Fmt.{decimal};
 ghost use Rattle.tp_words.specs.Args.{HasTyped, IsTypedPart, IsTypedTrace, IsView};
 ghost use Rattle.tp_words.specs.Numbers.{IsFirstNumberFault, journal_options};
 ghost use Rattle.tp_words.specs.Places.{HasViewFlag, view_command, view_places};

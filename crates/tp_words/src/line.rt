@@ -1,8 +1,8 @@
 //! Which lines the commands take.
 
 ghost use Rattle.std.specs.Prelude.{◌≡◌, true, IfOk, IfSome, length, map, string_bytes};
+ghost use Rattle.std.specs.Option.{option_map};
 ghost use Rattle.tp_words.specs.Lines.{Taken, asks_help, begins_help, has_asking, is_asking, is_kept, is_stream, line_of, name_in, named, taken, taken_as, taken_in};
-ghost use Rattle.tp_words.specs.Lower.{option_map};
 
 use crate::args::MAX_WORDS;
 use crate::numbers::{after_first, has_flag, is_word};

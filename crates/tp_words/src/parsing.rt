@@ -1,8 +1,8 @@
 //! What is told of a line that no command takes.
 
 ghost use Rattle.std.specs.Prelude.{◌≡◌, ◌↔◌, true, IfErr, IfOk, IfSome, IsTrue, OnOk};
-ghost use Rattle.tp_words.specs.Lines.{asks_help};
 ghost use Rattle.tp_words.specs.Lower.{kind_of, OutOfMemory};
+ghost use Rattle.tp_words.specs.Lines.{asks_help};
 ghost use Rattle.tp_words.specs.Parsing.{IsMistake};
 ghost use Rattle.tp_words.specs.Refused.{IsUntaken};
 

@@ -1,9 +1,9 @@
 //! One walk over a line: what each word of it is.
 
 ghost use Rattle.std.specs.Prelude.{◌≡◌, IfOk, map};
+ghost use Rattle.std.specs.Option.{option_map};
 ghost use Rattle.tp_words.specs.Given.{value_in};
 ghost use Rattle.tp_words.specs.Lines.{after_option, after_word, has_begun, has_equals, has_whole, is_begun_as, is_dashed, is_place, is_whole_as, may_end, option_in, read_in};
-ghost use Rattle.tp_words.specs.Lower.{option_map};
 ghost use Rattle.tp_words.specs.Rows.{row_of};
 
 use crate::numbers::is_word;

@@ -195,7 +195,7 @@ fn is_lawful(
     }
 }
 
-/// Whether a line with so many places keeps the rules of a command.
+/// Whether a line with this many places keeps the rules of a command.
 pub fn is_kept(
     alloc: Global,
     name: Name,

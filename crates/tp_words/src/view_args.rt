@@ -1,7 +1,7 @@
 //! What the commands ask for that write no device.
 
 ghost use Rattle.std.specs.Prelude.{◌≡◌, ◌∷◌, [], IfErr, IfOk, map, string_bytes};
-ghost use Rattle.tp_words.specs.Lower.{decimal};
+ghost use Rattle.std.specs.Fmt.{decimal};
 ghost use Rattle.tp_words.specs.Args.{HasTyped, IsInRange, IsTypedMaps, IsView, WasTyped};
 ghost use Rattle.tp_words.specs.Places.{HasPlaces, HasViewFlag, IsTakenAs, view_command, view_places};
 ghost use Rattle.tp_words.specs.Refused.{IsGraphFault, IsRefusedAs};

@@ -94,7 +94,7 @@ pub const COMMANDS: &[Name] = &[
     Name::Port,
 ];
 
-/// `run` with `--stream`, of which `clap` tells apart from the others.
+/// `run` with `--stream`. `clap` reads it as a command of its own.
 pub const STREAM_COMMANDS: &[Name] = &[Name::Stream];
 
 /// The command of that name.

@@ -1,8 +1,7 @@
 //! Standard input that isn't read before the first call.
 
-ghost use Rattle.std.specs.Io.{ReadsAtMost};
-ghost use Rattle.std.specs.Io.KnownBytes.{ReadConsumes};
 ghost use Rattle.std.specs.Prelude.{◌≡◌, [], None};
+ghost use Rattle.tpnet.specs.Lower.{ReadsAtMost, ReadConsumes};
 
 use crossbeam_channel::{Receiver, Sender, bounded};
 use std::io;

@@ -1,7 +1,6 @@
 //! A writer that this process waits for, even if the writer doesn't wait itself.
 
-ghost use Rattle.std.specs.Io.{WritesAtMost};
-ghost use Rattle.std.specs.Io.KnownBytes.{WriteAppends};
+ghost use Rattle.tpnet.specs.Lower.{WritesAtMost, WriteAppends};
 
 use std::io;
 use std::io::{ErrorKind, Write};

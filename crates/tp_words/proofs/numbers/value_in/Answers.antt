@@ -1,9 +1,6 @@
 use Rattle.std.proofs.Common.{◌≡◌, ◌∙◌, ◌++◌, List, ℕ, Bool, true, false, Option, Some, None, Bor, length, take, drop, refl, ap, sym}
 use Rattle.std.specs.Prelude.{if◌then◌else◌}
-use Rattle.std.proofs.lemmas.List.{take-append-drop}
-use Rattle.std.proofs.Math.Seq.{take-append_seam}
-use Rattle.std.specs.Str.Pattern.{FindsTextPrefix, StripsPrefix}
-use Rattle.tp_words.proofs.Lower.{bytes_eq-Decides, MatchOption, option_map}
+use Rattle.tp_words.proofs.Lower.{take-append-drop, take-append_seam, FindsTextPrefix, StripsPrefix, bytes_eq-Decides, MatchOption, option_map}
 use Rattle.tp_words.specs.Given.{value_in}
 use Rattle.tp_words.proofs.numbers.value_in.Goals as goal
 

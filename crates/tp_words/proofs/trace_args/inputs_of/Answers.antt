@@ -1,5 +1,5 @@
 use Rattle.std.proofs.Common.{List, inr, subst}
-use Rattle.tp_words.proofs.Lower.{PortFile}
+use Rattle.tp_stream_files.specs.declared.ends.PortFile.{PortFile}
 use Rattle.tp_words.proofs.Texts.{if_some}
 use Rattle.tp_words.specs.TraceArgs.{AreOfLinks, IsLinksFault}
 use Rattle.tp_words.specs.declared.arg_fault.ArgFault.{ArgFault}
