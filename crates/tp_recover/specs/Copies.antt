@@ -1,6 +1,8 @@
 -- The bytes of a copy.
 use Rattle.std.specs.Prelude.{◌≡◌, ℕ, ◌+◌, ◌-◌, true, not, List, [], ◌∷◌, take, drop, Ok, Option, Some, None}
-use Rattle.tp_recover.specs.Lower.{area_front, area_start, Moment, Sync, done, written, Opened, next_of, verdict, GATE_CLOSED, GATE_OPEN}
+use Rattle.tp_recover.specs.Lower.{area_front, area_start, Moment, State, Sync, done, written, Opened, next_of, verdict, GATE_CLOSED, GATE_OPEN}
+use Rattle.tp_recover.specs.declared.asked.AreaAsked.{AreaAsked}
+use Rattle.tp_recover.specs.declared.copying.Copied.{Copied}
 use Rattle.tp_recover.specs.declared.kept.Kept.{Kept}
 
 -- what of an opened device is copied
@@ -70,6 +72,14 @@ pub record IsCopy (kept : Kept) (source old : List ℕ) (new : Moment) (next : �
   pub synced : new.unsynced ≡ []
 
 -- The answer: a copy, or that the area was written again. Then the gates of what was to be the copy are closed.
-abbrev pub CopyAnswer : Kept → List ℕ → Moment → Moment → Option ℕ → Type 0
-CopyAnswer kept source old new (Some next) = IsCopy kept source old.bytes new next
+abbrev pub CopyAnswer : Kept → List ℕ → Moment → Moment → Option Copied → Type 0
+CopyAnswer kept source old new (Some copied) = IsCopy kept source old.bytes new copied.next
 CopyAnswer kept source old new None = (HasStayed kept source → ⊥) × (new.bytes ≡ closed_copy kept source old.bytes)
+
+-- A device was asked for the gate and the generation of the area that is copied, and the gate was open, with its generation. Right after that
+-- question the device was in the state `left`. If that is its state now, no call of it came later: of a device that keeps the model each call
+-- adds a past moment.
+pub record AskedLast (kept : Kept) (left : State) (asked : AreaAsked) : Type 0 where
+  pub start : asked.start ≡ kept_start kept
+  pub front : asked.front ≡ record { is_open = true; generation = kept.generation }
+  pub last : asked.noted.state ≡ left

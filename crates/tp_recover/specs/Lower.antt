@@ -1,4 +1,5 @@
 -- What definitions and contracts here name of the crates below.
+pub use Rattle.std.specs.Borrow.{ftrue}
 pub use Rattle.std.specs.List.{AllByRecursion}
 pub use Rattle.std.specs.declared.alloc.Global.{Global}
 pub use Rattle.tp_model.specs.CutImage.{is_port_of, node_with, or_damaged, port_with}

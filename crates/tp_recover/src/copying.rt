@@ -4,7 +4,8 @@
 //! which order). Opening has told which area counts, its generation, and where the closed gate after its groups is. What is between the two
 //! gates stays as it is until a checkpoint writes into this area. A checkpoint first closes the area's gate, and opens it with a generation
 //! that is higher by 2. **So once the bytes are copied, the area's gate and generation are read again.** If they are what opening found,
-//! nothing was written there meanwhile, and the bytes are those of the moment at which the device was opened. Else there is no copy.
+//! nothing was written there meanwhile, and the bytes are those of the moment at which the device was opened. Else there is no copy. A copy
+//! comes with the device's answer, and that was the answer to the last call of the device (`AskedLast`).
 //!
 //! **The gate of the copy's area is opened last**, after the head is written and the closed gate after the groups. The other area's gate is
 //! closed. Then the copy is opened, and has to say what opening the device said.
@@ -16,19 +17,27 @@
 //! so a checkpoint was written into the other one since. Then the gate and generation of the other one aren't found in the end as opening
 //! read them.
 
-ghost use Rattle.std.specs.Prelude.{◌≡◌, ◌+◌, ◌^◌, ◌≤◌, ◌<◌, ◌↔◌, IfOk, IsTrue, OnOk};
-ghost use Rattle.tp_recover.specs.Lower.{area_front, AREA_FRONT_BYTES, area_start, areas_end, AREA_HEAD_BYTES};
-ghost use Rattle.tp_recover.specs.Copies.{CopyAnswer, HasStayed, IsFinished, OpensAs, closed_copy, area_kept};
+ghost use Rattle.std.specs.Prelude.{◌≡◌, ◌+◌, ◌^◌, ◌≤◌, ◌<◌, ◌↔◌, IfOk, IfSome, IsSome, OnOk};
+ghost use Rattle.tp_recover.specs.Lower.{area_start, areas_end, AREA_HEAD_BYTES};
+ghost use Rattle.tp_recover.specs.Copies.{AskedLast, CopyAnswer, HasStayed, IsFinished, OpensAs, closed_copy, area_kept};
 ghost use Rattle.tp_recover.specs.Reading.{LeavesNothingNew};
 
+use crate::asked::{AreaAsked, ask_area};
 use crate::fault::CopyFault;
 use crate::kept::{Kept, is_kept, kept_of, lie_in};
 use crate::pieces::{copy_range, put_bytes};
 use crate::{Opened, Unopened, open};
 use std::alloc::Global;
-use tp_area::{AREA_FRONT_BYTES, AreaFront, area_front, area_start};
+use tp_area::area_start;
 use tp_disk::Disk;
 use tp_model::limits::{GATE_CLOSED, GATE_OPEN};
+
+/// A copy of a device: the number of its next entry, and what the device answered about the copied area once all of it was read.
+#[derive(Drop)]
+pub struct Copied {
+    pub next: u64,
+    pub asked: AreaAsked,
+}
 
 /// Writes all of a copy except its area's open gate.
 fn make_closed<D: Disk, K: Disk>(source: &mut D, copy: &mut K, kept: Kept) -> Result<(), CopyFault>
@@ -51,32 +60,23 @@ fn make_closed<D: Disk, K: Disk>(source: &mut D, copy: &mut K, kept: Kept) -> Re
     copy_range(source, copy, 0, kept.areas.first)
 }
 
-/// Reads the gate and the generation of the area that is copied.
-fn read_front<D: Disk>(source: &mut D, start: u64) -> Result<AreaFront, CopyFault>
-    requires { start + AREA_FRONT_BYTES ≤ D.size_of source.old }
-    ensures source_size { D.size_of source.new ≡ D.size_of source.old }
-    ensures kept { D.keeps → IfOk result (λ front. (D.state source.new).now ≡ (D.state source.old).now) }
-    ensures leaves { D.keeps → LeavesNothingNew (D.state source.old) (D.state source.new) }
-    ensures is { D.keeps → IfOk result (λ front. front ≡ area_front start (D.state source.old).now.bytes) }
-{
-    let mut bytes = [0; AREA_FRONT_BYTES];
-    match source.read(start, &mut bytes) {
-        Ok(()) => Ok(area_front(&bytes)),
-        Err(_) => Err(CopyFault::ReadFailed),
-    }
-}
-
-/// Whether the area that is copied still has its gate open and its generation.
-fn has_stayed<D: Disk>(source: &mut D, kept: Kept) -> Result<bool, CopyFault>
+/// Asks whether the area that is copied still has its gate open and its generation. Answers what the device answered, or `None` if it hasn't.
+fn has_stayed<D: Disk>(source: &mut D, kept: Kept) -> Result<Option<AreaAsked>, CopyFault>
     requires from { areas_end kept.areas ≤ D.size_of source.old }
     requires counted { D.size_of source.old < 2 ^ 64 }
     requires some { AREA_HEAD_BYTES ≤ kept.areas.length }
+    ensures source_size { D.size_of source.new ≡ D.size_of source.old }
     ensures kept { D.keeps → IfOk result (λ stayed. (D.state source.new).now ≡ (D.state source.old).now) }
     ensures leaves { D.keeps → LeavesNothingNew (D.state source.old) (D.state source.new) }
-    ensures is { D.keeps → IfOk result (λ stayed. IsTrue stayed ↔ HasStayed kept (D.state source.old).now.bytes) }
+    ensures is { D.keeps → IfOk result (λ stayed. IsSome stayed ↔ HasStayed kept (D.state source.old).now.bytes) }
+    ensures asked { IfOk result (λ stayed. IfSome stayed (AskedLast kept (D.state source.new))) }
 {
-    let front = read_front(source, area_start(kept.areas, kept.second))?;
-    Ok(front.is_open && front.generation == kept.generation)
+    let asked = ask_area(source, area_start(kept.areas, kept.second))?;
+    if asked.is_open_with(kept.generation) {
+        Ok(Some(asked))
+    } else {
+        Ok(None)
+    }
 }
 
 /// Opens a copy, which has to say what opening the device said.
@@ -102,19 +102,20 @@ fn finish<K: Disk>(alloc: Global, copy: &mut K, kept: Kept) -> Result<(), CopyFa
     opens_as(alloc, copy, kept)
 }
 
-/// Copies what of a device is copied. Answers whether that stayed as it was.
+/// Copies what of a device is copied. Answers `None` if that didn't stay as it was.
 #[inline(never)]
 fn copy_kept<D: Disk, K: Disk>(
     alloc: Global,
     source: &mut D,
     copy: &mut K,
     kept: Kept,
-) -> Result<Option<u64>, CopyFault>
+) -> Result<Option<Copied>, CopyFault>
     requires behind { area_start kept.areas kept.second + AREA_HEAD_BYTES ≤ kept.end }
     requires inside { kept.end < area_start kept.areas kept.second + kept.areas.length }
     ensures kept { D.keeps → IfOk result (λ found. (D.state source.new).now ≡ (D.state source.old).now) }
     ensures leaves { D.keeps → LeavesNothingNew (D.state source.old) (D.state source.new) }
     ensures is { D.keeps → K.keeps → IfOk result (CopyAnswer kept (D.state source.old).now.bytes (K.state copy.old).now (K.state copy.new).now) }
+    ensures asked { IfOk result (λ found. IfSome found (λ copied. AskedLast kept (D.state source.new) copied.asked)) }
 {
     if !lie_in(kept.areas, source.size()) {
         return Err(CopyFault::ReadFailed);
@@ -123,19 +124,23 @@ fn copy_kept<D: Disk, K: Disk>(
         return Err(CopyFault::DeviceFailed);
     }
     make_closed(source, copy, kept)?;
-    if !has_stayed(source, kept)? {
+    let Some(asked) = has_stayed(source, kept)? else {
         return Ok(None);
-    }
+    };
     finish(alloc, copy, kept)?;
-    Ok(Some(kept.next))
+    Ok(Some(Copied {
+        next: kept.next,
+        asked,
+    }))
 }
 
 /// Copies a device that was `opened`, and that another process may be running, over what is in `copy`, which has to be at least as large.
 /// Writes nothing to the device, and a crash finds nothing there that the call made.
 ///
 /// Answers the number of the next entry. All of the copy is then synced. It opens to the area, the generation, the form, the end of the
-/// groups and the number to which the device was opened. Answers `None` if the area that is copied has another gate or generation after the
-/// copying. Then the copy's gates are closed, and it has to be made again, of the device as it then opens.
+/// groups and the number to which the device was opened. After the last read that went into the copy, the device was asked for the area's gate
+/// and generation, and answered what opening found (`asked`). Answers `None` if it answers otherwise. Then the copy's gates are closed, and it
+/// has to be made again, of the device as it then opens.
 ///
 /// Fails with `ReadFailed` if the device does, with `DeviceFailed` if the copy does, or with `Memory`.
 pub fn copy_opened<D: Disk, K: Disk>(
@@ -143,10 +148,11 @@ pub fn copy_opened<D: Disk, K: Disk>(
     source: &mut D,
     copy: &mut K,
     opened: Opened,
-) -> Result<Option<u64>, CopyFault>
+) -> Result<Option<Copied>, CopyFault>
     ensures kept { D.keeps → IfOk result (λ found. (D.state source.new).now ≡ (D.state source.old).now) }
     ensures leaves { D.keeps → LeavesNothingNew (D.state source.old) (D.state source.new) }
     ensures is { D.keeps → K.keeps → IfOk result (CopyAnswer (area_kept opened) (D.state source.old).now.bytes (K.state copy.old).now (K.state copy.new).now) }
+    ensures asked { IfOk result (λ found. IfSome found (λ copied. AskedLast (area_kept opened) (D.state source.new) copied.asked)) }
 {
     let kept = kept_of(&opened);
     drop(opened);

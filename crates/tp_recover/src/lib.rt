@@ -2,6 +2,7 @@
 #![tactic(auto)]
 
 mod ahead;
+mod asked;
 mod before;
 mod choice;
 mod copying;
@@ -34,9 +35,10 @@ mod unopened;
 mod window;
 
 pub use ahead::read_rows;
+pub use asked::AreaAsked;
 pub use before::open_before;
 pub use choice::read_choice;
-pub use copying::copy_opened;
+pub use copying::{Copied, copy_opened};
 pub use cut::{Cut, read_cut};
 pub use fault::CopyFault;
 pub use front::read_front;

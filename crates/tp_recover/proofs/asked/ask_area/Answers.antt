@@ -1,13 +1,13 @@
 use Rattle.tp_recover.proofs.Areas.{area_front-part}
 use Rattle.tp_recover.proofs.Leaving.{read_leaves}
-use Rattle.tp_recover.proofs.copying.read_front.Goals as goal
+use Rattle.tp_recover.proofs.asked.ask_area.Goals as goal
 
 pub returns-in-Ok-clause-is : goal.returns-in-Ok-clause-is
 returns-in-Ok-clause-is g c k =
     let xs = (g.D.Disk.state c.args.source.now).now.bytes in
     let read = c.in-Ok.ensures.bytes k in
     let part = area_front-part c.args.start xs in
-    cc (c.area_front.ensures)
+    cc (c.area_front-front.ensures)
 
 pub returns-in-Ok-clause-leaves : goal.returns-in-Ok-clause-leaves
 returns-in-Ok-clause-leaves g c k =
