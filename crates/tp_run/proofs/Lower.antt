@@ -48,7 +48,7 @@ pub use Rattle.tp_ready.specs.Seen.{RaiserValue}
 pub use Rattle.tp_shared.proofs.Writing.{enumerated_below}
 pub use Rattle.tp_shared.specs.Below.{AreBelow}
 pub use Rattle.tp_shared.specs.HandedIn.{handed}
-pub use Rattle.tp_shared.specs.Parted.{PartsValue}
+pub use Rattle.tp_shared.specs.Parted.{PartsValue, name_of}
 pub use Rattle.tp_shared.specs.Resting.{rest_in}
 pub use Rattle.tp_shared.specs.Seals.{Stage}
 pub use Rattle.tp_work.specs.Answers.{RefusesFor}

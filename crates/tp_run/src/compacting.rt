@@ -194,7 +194,7 @@ fn compact_parts<J: Naming, D: Disk, R: Wait>(
     raiser: Raiser,
     store: Store<D>,
 ) -> (D, Result<Compaction, CompactFault>)
-    requires names { Names J.roll J.first J.start J.node J.mark J.flusher J.host J.sights J.room parts }
+    requires names { Names J.roll J.first J.start J.node J.mark J.flusher J.host J.sights J.room J.accepted parts }
     requires stands { IsMadeOf opened.value parts raiser }
     requires bound { parts.book.room ≡ Some (room opened.value.head.topology opened.value.head.areas.length) }
     requires cut { IsCut t414_ends opened.value.head.topology opened.value.base opened.value.cut }

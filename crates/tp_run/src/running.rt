@@ -109,7 +109,7 @@ fn run_parts<J: Naming + Send + Sync, D: Disk + Send + Drop, O: Outlet, R: Threa
     requires workers { (0 < job.workers) × (job.workers ≤ MAX_WORKERS) }
     requires quantum { (0 < job.quantum) × (job.quantum ≤ MAX_STEPS) }
     requires port { job.port < opened.value.head.topology.ports }
-    requires names { Names J.roll J.first J.start J.node J.mark J.flusher J.host J.sights J.room parts }
+    requires names { Names J.roll J.first J.start J.node J.mark J.flusher J.host J.sights J.room J.accepted parts }
     requires stands { IsMadeOf opened.value parts raiser }
     requires bound { parts.book.room ≡ Some (room opened.value.head.topology opened.value.head.areas.length) }
     requires cut { IsCut t414_ends opened.value.head.topology opened.value.base opened.value.cut }

@@ -13,6 +13,7 @@ use Rattle.tp_shared.specs.Told.{ToldSince, told_of}
 use Rattle.tp_shared.specs.declared.handed.Handed.{Handed}
 use Rattle.tp_shared.specs.declared.seal.NodeSeal.{NodeSeal}
 use Rattle.tp_shared.specs.declared.told.Told.{Told}
+use Rattle.tp_shared.proofs.Accepting.{accepted_more}
 use Rattle.tp_shared.proofs.BrokenSeen.{ever_since, seen_now}
 use Rattle.tp_shared.proofs.Copying.{since_flag}
 use Rattle.tp_shared.proofs.HandedIn.{handed-append}
@@ -21,14 +22,14 @@ use Rattle.tp_shared.proofs.Sealing.{all_after, floor_after, sealed_broken, seal
 use Rattle.tp_shared.proofs.Telling.{since_broken, since_gone, since_more, since_still, told_fewer}
 use Rattle.tp_shared.proofs.Writing.{as_many, paired}
 
-module _ {roll_name first : ℕ} {start : Network NodeState} {node : ℕ → ℕ} {flusher host : ℕ} {room : Option ℕ} {before : World NodeState} {b : BookValue} {seals : List NodeSeal} {roll : Roll Entry} {told : Seal Told} {given : Seal Handed} {sights : List BookValue}
-    (T : AreTogether roll_name first start node flusher host room before b seals roll told given sights) where
+module _ {roll_name first : ℕ} {start : Network NodeState} {node : ℕ → ℕ} {flusher host : ℕ} {room : Option ℕ} {accepted : ℕ → ℕ} {before : World NodeState} {b : BookValue} {seals : List NodeSeal} {roll : Roll Entry} {told : Seal Told} {given : Seal Handed} {sights : List BookValue}
+    (T : AreTogether roll_name first start node flusher host room accepted before b seals roll told given sights) where
   -- the seal at a node's number
   pub seal_at : (i : ℕ) (s : NodeSeal) → i < length start.nodes → s ≡ get_or seals i s → slice_get seals i ≡ Some s
   seal_at i s there is = slice_get_read seals (length seals) i s refl (let count = T.seal_count in omega (arith, count, there)) is
 
   told_so : {now : Seal Told} → now.name ≡ told.name → ToldSince now.value (told_of before first (record { book = b; all = roll.items; numbered_from = now.value.numbered_from; frozen = frozen_in seals })) → ThawedAsTold now.value seals
-      → IsNumberedFrom now.value.numbered_from b → now.value.numbered_from ≤ now.value.base + length now.value.net.entries → AreTogether roll_name first start node flusher host room before b seals roll now given sights
+      → IsNumberedFrom now.value.numbered_from b → now.value.numbered_from ≤ now.value.base + length now.value.net.entries → AreTogether roll_name first start node flusher host room accepted before b seals roll now given sights
   told_so name since thawed numbered reaches = record {
     idle = T.idle;
     seal_count = T.seal_count;
@@ -49,18 +50,19 @@ module _ {roll_name first : ℕ} {start : Network NodeState} {node : ℕ → ℕ
     reaches = reaches;
     host_is = T.host_is;
     given_is = T.given_is;
+    fed = T.fed;
     seen = T.seen;
   }
 
   -- the flusher is told nothing new
-  pub told_still : {now : Seal Told} → now.name ≡ told.name → now.value ≡ told.value → AreTogether roll_name first start node flusher host room before b seals roll now given sights
+  pub told_still : {now : Seal Told} → now.name ≡ told.name → now.value ≡ told.value → AreTogether roll_name first start node flusher host room accepted before b seals roll now given sights
   told_still name is =
       told_so name (subst (λ (t : Told). ToldSince t (told_of before first (record { book = b; all = roll.items; numbered_from = t.numbered_from; frozen = frozen_in seals }))) (sym is) T.since) (subst (λ t. ThawedAsTold t seals) (sym is) T.thawed)
       (subst (λ (t : Told). IsNumberedFrom t.numbered_from b) (sym is) T.numbered) (subst (λ (t : Told). t.numbered_from ≤ t.base + length t.net.entries) (sym is) T.reaches)
 
   -- it is told of the book as it is
   pub told_anew : {now : Seal Told} (flag : Bool) → now.name ≡ told.name → now.value ≡ record (told_of before first (record { book = b; all = roll.items; numbered_from = told.value.numbered_from; frozen = frozen_in seals })) { thawed = flag }
-      → ThawedAsTold now.value seals → AreTogether roll_name first start node flusher host room before b seals roll now given sights
+      → ThawedAsTold now.value seals → AreTogether roll_name first start node flusher host room accepted before b seals roll now given sights
   told_anew flag name is thawed =
       let stage : Stage = record { book = b; all = roll.items; numbered_from = told.value.numbered_from; frozen = frozen_in seals } in
       let low : told.value.numbered_from ≤ next_in_book b = let more = told_fewer before first told.value stage T.since in let reaches = T.reaches in omega (arith, more, reaches) in
@@ -69,7 +71,7 @@ module _ {roll_name first : ℕ} {start : Network NodeState} {node : ℕ → ℕ
 
   -- the book is as it was, beside other seals
   pub sealed_anew : {others : List NodeSeal} → length others ≡ length seals → Sealed node others b → ThawedAsTold told.value others → StayGone (world_of b) (frozen_in seals) (frozen_in others)
-      → AreTogether roll_name first start node flusher host room before b others roll told given sights
+      → AreTogether roll_name first start node flusher host room accepted before b others roll told given sights
   sealed_anew {others} many sealed thawed gone = record {
     idle = T.idle;
     seal_count = many ∙ T.seal_count;
@@ -90,12 +92,13 @@ module _ {roll_name first : ℕ} {start : Network NodeState} {node : ℕ → ℕ
     reaches = T.reaches;
     host_is = T.host_is;
     given_is = T.given_is;
+    fed = T.fed;
     seen = T.seen;
   }
 
   -- nothing was journalled
   pub acted_still : {new : BookValue} {others : List NodeSeal} → Grown (λ entries. entries ≡ []) b new → length new.runs ≡ length b.runs → length others ≡ length seals → Sealed node others new → ThawedAsTold told.value others
-      → StayGone (world_of b) (frozen_in seals) (frozen_in others) → AreTogether roll_name first start node flusher host room before new others roll told given sights
+      → StayGone (world_of b) (frozen_in seals) (frozen_in others) → AreTogether roll_name first start node flusher host room accepted before new others roll told given sights
   acted_still {new} {others} G runs many sealed thawed gone = record {
     idle = G.ready ∙ T.idle;
     seal_count = many ∙ T.seal_count;
@@ -116,13 +119,14 @@ module _ {roll_name first : ℕ} {start : Network NodeState} {node : ℕ → ℕ
     reaches = T.reaches;
     host_is = T.host_is;
     given_is = T.given_is;
+    fed = accepted_more (λ (entries : List Entry). entries ≡ []) b new G accepted roll.items roll.items (sym (append-nil roll.items) ∙ ap (λ es. roll.items ++ es) (sym G.are)) T.fed;
     seen = subst (λ now. BrokenSince now sights) (sym G.broken) T.seen;
   }
 
   -- ## What the host handed in
 
   -- nothing more
-  pub given_same : {now : Seal Handed} → now.name ≡ given.name → now.value ≡ given.value → AreTogether roll_name first start node flusher host room before b seals roll told now sights
+  pub given_same : {now : Seal Handed} → now.name ≡ given.name → now.value ≡ given.value → AreTogether roll_name first start node flusher host room accepted before b seals roll told now sights
   given_same name is = record {
     idle = T.idle;
     seal_count = T.seal_count;
@@ -143,6 +147,7 @@ module _ {roll_name first : ℕ} {start : Network NodeState} {node : ℕ → ℕ
     reaches = T.reaches;
     host_is = name ∙ T.host_is;
     given_is = ap (λ (x : Handed). x.entries) is ∙ T.given_is;
+    fed = T.fed;
     seen = T.seen;
   }
 
@@ -166,7 +171,7 @@ module _ {roll_name first : ℕ} {start : Network NodeState} {node : ℕ → ℕ
   pub acted_written : {Are : List Entry → Type 0} {new : BookValue} {others : List NodeSeal} {now : Roll Entry} {hand : Seal Handed} (es : List (Entry × ℕ)) → map (λ (e : Entry × ℕ). e.0) es ≡ b.state.entries → map (λ (e : Entry × ℕ). e.1) es ≡ b.numbers
       → Grown Are b new → length new.runs ≡ length b.runs → length others ≡ length seals → Sealed node others new → ThawedAsTold told.value others → StayGone (world_of b) (frozen_in seals) (frozen_in others)
       → now.name ≡ roll.name → now.first ≡ roll.first → now.items ≡ roll.items ++ drop (length es) new.state.entries → hand.name ≡ given.name → hand.value.entries ≡ handed now.items
-      → AreTogether roll_name first start node flusher host room before new others now told hand sights
+      → AreTogether roll_name first start node flusher host room accepted before new others now told hand sights
   acted_written {Are} {new} {others} {now} es entries_are numbers_are G runs many sealed thawed gone name same is label shows =
       let counted = as_many es b.state.entries entries_are in
       record {
@@ -189,27 +194,28 @@ module _ {roll_name first : ℕ} {start : Network NodeState} {node : ℕ → ℕ
         reaches = T.reaches;
         host_is = label ∙ T.host_is;
         given_is = shows;
+        fed = accepted_more Are b new G accepted roll.items now.items (all_after Are b new G (length es) counted roll.items now.items is) T.fed;
         seen = subst (λ now. BrokenSince now sights) (sym G.broken) T.seen;
       }
 
   -- acts of the host that journalled nothing
-  pub hosted_still : {new : BookValue} → HostActed (λ entries. entries ≡ []) b new → AreTogether roll_name first start node flusher host room before new seals roll told given sights
+  pub hosted_still : {new : BookValue} → HostActed (λ entries. entries ≡ []) b new → AreTogether roll_name first start node flusher host room accepted before new seals roll told given sights
   hosted_still {new} H = acted_still H.grown (ap length H.runs) refl (sealed_still (λ (entries : List Entry). entries ≡ []) node seals b new T.sealed H) T.thawed (λ i n F none. none)
 
   -- acts of the host, and what was journalled was written onto the roll
   pub hosted_written : {Are : List Entry → Type 0} {new : BookValue} {now : Roll Entry} {hand : Seal Handed} (es : List (Entry × ℕ)) → map (λ (e : Entry × ℕ). e.0) es ≡ b.state.entries → map (λ (e : Entry × ℕ). e.1) es ≡ b.numbers
       → HostActed Are b new → now.name ≡ roll.name → now.first ≡ roll.first → now.items ≡ roll.items ++ drop (length es) new.state.entries → hand.name ≡ given.name → hand.value.entries ≡ handed now.items
-      → AreTogether roll_name first start node flusher host room before new seals now told hand sights
+      → AreTogether roll_name first start node flusher host room accepted before new seals now told hand sights
   hosted_written {Are} {new} es entries_are numbers_are H name same is label shows =
       acted_written es entries_are numbers_are H.grown (ap length H.runs) refl (sealed_still Are node seals b new T.sealed H) T.thawed (λ i n F none. none) name same is label shows
 
   -- the store breaks, and that is told
   pub broken_told : {new : BookValue} {now : Seal Told} → new ≡ record b { broken = true } → now.name ≡ told.name → now.value ≡ record told.value { broken = true }
-      → AreTogether roll_name first start node flusher host room before new seals roll now given sights
+      → AreTogether roll_name first start node flusher host room accepted before new seals roll now given sights
   broken_told {new} {now} is name shows =
       let broke : BookValue = record b { broken = true } in
       let t : Told = record told.value { broken = true } in
-      subst (λ book. AreTogether roll_name first start node flusher host room before book seals roll now given sights) (sym is)
+      subst (λ book. AreTogether roll_name first start node flusher host room accepted before book seals roll now given sights) (sym is)
       (record {
         idle = T.idle;
         seal_count = T.seal_count;
@@ -231,11 +237,12 @@ module _ {roll_name first : ℕ} {start : Network NodeState} {node : ℕ → ℕ
         reaches = subst (λ (x : Told). x.numbered_from ≤ x.base + length x.net.entries) (sym shows) T.reaches;
         host_is = T.host_is;
         given_is = T.given_is;
+        fed = T.fed;
         seen = ever_since sights;
       })
 
   -- the book was seen as it is
-  pub seen_more : {now : List BookValue} → now ≡ sights ++ b ∷ [] → AreTogether roll_name first start node flusher host room before b seals roll told given now
+  pub seen_more : {now : List BookValue} → now ≡ sights ++ b ∷ [] → AreTogether roll_name first start node flusher host room accepted before b seals roll told given now
   seen_more {now} is = record {
     idle = T.idle;
     seal_count = T.seal_count;
@@ -256,5 +263,6 @@ module _ {roll_name first : ℕ} {start : Network NodeState} {node : ℕ → ℕ
     reaches = T.reaches;
     host_is = T.host_is;
     given_is = T.given_is;
+    fed = T.fed;
     seen = seen_now b sights now is T.seen;
   }

@@ -20,6 +20,8 @@ pub mod Trims
 pub mod Closing
 pub mod Positioned
 pub mod HandedIn
+pub mod BytesIn
+pub mod Accepting
 pub mod Keeping
 pub mod Gaining
 pub mod Seen

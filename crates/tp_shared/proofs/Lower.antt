@@ -1,10 +1,12 @@
 -- What proofs here name of the crates below.
 pub use Rattle.std.proofs.lemmas.Bool.{and_parts, cases_eq, cases_lt, ne_eqb, true≢false}
+pub use Rattle.std.proofs.lemmas.Grind.{flat_map-append}
 pub use Rattle.std.proofs.lemmas.Iterator.Adapters.{YieldsList-from_vec}
 pub use Rattle.std.proofs.lemmas.Iterator.Consumers.{YieldsList-turn}
 pub use Rattle.std.proofs.lemmas.List.{append-nil, drop-map, drop_all, drop_at, length-drop, length-map, length-replicate, length-set, map-append, set-set, take-append-drop, take-map, take_at, take_more, take_rest}
 pub use Rattle.std.proofs.lemmas.List.FromFn.{length-enumerate_from}
-pub use Rattle.std.proofs.lemmas.Option.{get_or_from_slice_get, slice_get-map, slice_get_read, slice_get_within}
+pub use Rattle.std.proofs.lemmas.List.Sums.{sum_by-cons}
+pub use Rattle.std.proofs.lemmas.Option.{get_or_from_slice_get, slice_get-get_or, slice_get-map, slice_get_read, slice_get_within}
 pub use Rattle.std.proofs.lemmas.Result.{IfOk-weaker}
 pub use Rattle.std.proofs.lemmas.Slice.Zip.{firsts-zip, seconds-zip}
 pub use Rattle.std.specs.List.{AllByRecursion, enumerate_from, list_all, range_with_len}
@@ -12,14 +14,15 @@ pub use Rattle.std.specs.Option.{option_map}
 pub use mathlib.Core.List.{cons≢nil}
 pub use Rattle.tp_model.specs.Acts.{Act, Begin, Close, Journal, Record, Trim, trim}
 unfoldable pub use Rattle.tp_model.specs.Acts.{acted, happens}
+pub use Rattle.tp_model.specs.Counted.{is_input}
 pub use Rattle.tp_model.specs.DeviceAreas.{numbered}
-unfoldable pub use Rattle.tp_model.specs.Entries.{process}
+unfoldable pub use Rattle.tp_model.specs.Entries.{next, process}
 pub use Rattle.tp_model.specs.EntryBytes.{AreOf}
 pub use Rattle.tp_model.specs.FrozenAs.{IsFrozenAs}
 pub use Rattle.tp_model.specs.Halves.{BookState}
 pub use Rattle.tp_model.specs.Journal.{is_full_for_snapshot}
 pub use Rattle.tp_model.specs.Markers.{is_marker, plain, plain_network}
-pub use Rattle.tp_model.specs.Network.{Network, OfHost, OfNode, back, on_line}
+pub use Rattle.tp_model.specs.Network.{Network, OfHost, OfNode, Port, back, on_line}
 unfoldable pub use Rattle.tp_model.specs.Network.{own}
 pub use Rattle.tp_model.specs.Node.{t414}
 pub use Rattle.tp_model.specs.NodeState.{NodeState}
@@ -42,7 +45,9 @@ pub use Rattle.tp_model.specs.declared.wire.WireEnd.{WireEnd}
 pub use Rattle.tp_law_machine.proofs.LinkLaws.{has_four_links, never_marks}
 pub use Rattle.tp_law_machine.proofs.Partial.{all_append, all_at, all_set, bind_some, slice_get-set_other, slice_get-set_same}
 pub use Rattle.tp_law_machine.specs.NodeOfBytes.{IsNodeOfBytes}
+pub use Rattle.tp_law_network.proofs.Acts.{begin_parts, close_parts, journal_parts, record_parts}
 pub use Rattle.tp_law_network.proofs.Choice.{chosen-map, length-pre-post, made-map, post-append_outside}
+pub use Rattle.tp_law_network.proofs.Counted.{after_counted}
 pub use Rattle.tp_law_network.proofs.Happens.{acted_holds, happens_holds}
 pub use Rattle.tp_law_network.proofs.Lines.{on_set_same}
 pub use Rattle.tp_law_network.proofs.Local.{own-node, process_same}
@@ -71,7 +76,7 @@ unfoldable pub use Rattle.tp_book.specs.Book.{agreed}
 pub use Rattle.tp_book.specs.Calls.{front_of, with_run, without_run}
 pub use Rattle.tp_book.specs.Clear.{is_clear}
 pub use Rattle.tp_book.specs.Copies.{backlog_of}
-pub use Rattle.tp_book.specs.Host.{after_confirm, after_inputs, port_in, with_confirmed}
+pub use Rattle.tp_book.specs.Host.{accepted_of, after_confirm, after_inputs, port_in, with_confirmed}
 pub use Rattle.tp_book.specs.Joined.{FitsRoom, hand}
 pub use Rattle.tp_book.specs.Kept.{BookKeeps}
 pub use Rattle.tp_book.specs.Marked.{after_begin, begin_refusal, is_closable}

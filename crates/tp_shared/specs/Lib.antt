@@ -25,4 +25,6 @@ pub mod Thawed
 pub mod CopiedTail
 pub mod TrimmedTo
 pub mod HandedIn
+pub mod BytesIn
+pub mod Accepted
 pub mod Together

@@ -45,7 +45,7 @@ pub use Rattle.tp_book.specs.Book.{BookValue, count_of_nodes, next_in_book, worl
 unfoldable pub use Rattle.tp_book.specs.Book.{agreed}
 pub use Rattle.tp_book.specs.Calls.{without_run}
 pub use Rattle.tp_book.specs.Copies.{IsTail, backlog_of}
-pub use Rattle.tp_book.specs.Host.{after_confirm, after_inputs, confirm_refusal, input_refusal, port_in}
+pub use Rattle.tp_book.specs.Host.{accepted_of, after_confirm, after_inputs, confirm_refusal, input_refusal, port_in}
 pub use Rattle.tp_book.specs.Joined.{FitsRoom}
 pub use Rattle.tp_book.specs.Kept.{AreSpelt}
 pub use Rattle.tp_book.specs.Marked.{after_begin, begin_refusal}

@@ -6,6 +6,7 @@
 -- - the journal on the device.
 use Rattle.std.specs.Prelude.{◌≡◌, ◌≤◌, ◌+◌, ◌-◌, ◌*◌, ℕ, List, length, Option, None}
 use Rattle.tp_shared.specs.Lower.{Roll, Seal, Entry, NodeState, Network, World, BookValue}
+use Rattle.tp_shared.specs.Accepted.{HaveAccepted}
 use Rattle.tp_shared.specs.BrokenSeen.{BrokenSince}
 use Rattle.tp_shared.specs.Frozen.{frozen_in}
 use Rattle.tp_shared.specs.HandedIn.{handed}
@@ -19,7 +20,7 @@ use Rattle.tp_shared.specs.declared.told.Told.{Told}
 
 -- A book, the seals of its nodes, the roll, the seals of what the flusher was told and of what the host handed in, and the books that were
 -- seen, whenever nobody holds the lock. The other arguments say which network, tokens and history they belong to.
-pub record AreTogether (roll_name first : ℕ) (start : Network NodeState) (node : ℕ → ℕ) (flusher host : ℕ) (room : Option ℕ) (before : World NodeState)
+pub record AreTogether (roll_name first : ℕ) (start : Network NodeState) (node : ℕ → ℕ) (flusher host : ℕ) (room : Option ℕ) (accepted : ℕ → ℕ) (before : World NodeState)
     (book : BookValue) (seals : List NodeSeal) (roll : Roll Entry) (told : Seal Told) (given : Seal Handed) (sights : List BookValue) : Type 0 where
   -- no take is made ready
   pub idle : book.ready ≡ None
@@ -59,5 +60,7 @@ pub record AreTogether (roll_name first : ℕ) (start : Network NodeState) (node
   pub host_is : given.name ≡ host
   -- it shows what the host handed in since the opening
   pub given_is : given.value.entries ≡ handed roll.items
+  -- each port has accepted what they hand to it, and nothing else since the opening
+  pub fed : HaveAccepted accepted roll.items book
   -- if it was seen broken, it is broken
   pub seen : BrokenSince book.broken sights

@@ -1,6 +1,7 @@
 //! What the flusher was told and what the host handed in, compared with the book as it is.
 
 ghost use Rattle.std.specs.Prelude.{◌≡◌};
+ghost use Rattle.tp_shared.specs.Accepted.{HaveAccepted};
 ghost use Rattle.tp_shared.specs.HandedIn.{handed};
 ghost use Rattle.tp_shared.specs.Told.{ToldSince, told_of};
 
@@ -21,10 +22,12 @@ impl<J: Naming> Locked<J> {
         agree(&mut self.told, key);
     }
 
-    /// Proves that `host` shows all that was handed in since the opening. It changes nothing.
+    /// Proves that `host` shows all that was handed in since the opening. Each port has accepted that, after what it had accepted before. It
+    /// changes nothing.
     pub fn compare_host(&mut self, host: &mut HostKey<J>)
         ensures same { (self.new ≡ self.old) × (host.new ≡ host.old) }
         ensures all { handed self.old.all ≡ host.old }
+        ensures accepted { HaveAccepted J.accepted host.old self.old.book }
     {
         agree(&mut self.given, &mut host.key);
     }

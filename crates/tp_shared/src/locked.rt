@@ -1,7 +1,7 @@
 //! What the book's lock holds.
 
 ghost use Rattle.std.specs.Prelude.{◌≡◌, ◌<◌, ◌≤◌, ◌+◌, ◌-◌, ◌*◌, ℕ, None, [], true, length, IfErr, MatchResult};
-ghost use Rattle.tp_shared.specs.Lower.{MAX_STEPS, has_recorded_in, without_run, Added, IsNodeOf, moment_of, OpensIn, opened_acts, opened_entries, sent_in, turn_received};
+ghost use Rattle.tp_shared.specs.Lower.{MAX_STEPS, has_recorded_in, without_run, Added, IsNodeOf, moment_of, OpensIn, opened_acts, opened_entries, sent_in, turn_received, port_in, accepted_of};
 ghost use Rattle.tp_shared.specs.Entries.{IsTurnRefusal, OpenedEntries};
 ghost use Rattle.tp_shared.specs.Frozen.{frozen_in, keeps_pages};
 ghost use Rattle.tp_shared.specs.Gains.{HoldNoted};
@@ -55,7 +55,7 @@ impl<J: Naming> Model for Locked<J> {
 
     ghost view = { λ l. record { book = l.book; all = l.roll.items; numbered_from = l.told.value.numbered_from; frozen = frozen_in l.seals.items } };
 
-    ghost invariant = { λ l. AreTogether J.roll J.first J.start J.node J.flusher J.host J.room J.before l.book l.seals.items l.roll l.told l.given (map (λ seen. seen.value) l.sights.roll.items) };
+    ghost invariant = { λ l. AreTogether J.roll J.first J.start J.node J.flusher J.host J.room J.accepted J.before l.book l.seals.items l.roll l.told l.given (map (λ seen. seen.value) l.sights.roll.items) };
 }
 
 impl<J: Naming> Locked<J> {
@@ -76,6 +76,7 @@ impl<J: Naming> Locked<J> {
         requires roll { (roll.name ≡ J.roll) × (roll.first ≡ J.first) × (roll.items ≡ []) }
         requires tied { IsTied J.first roll.items book }
         requires room { (book.room ≡ J.room) × (book.floor ≤ J.first - book.base) }
+        requires accepted { (p : ℕ) → accepted_of (port_in book p) ≡ J.accepted p }
         requires told { (told.name ≡ J.flusher) × (told.value ≡ told_of J.before J.first (record { book = book; all = []; numbered_from = J.first; frozen = frozen_in seals.items })) }
         requires given { (given.name ≡ J.host) × (given.value.entries ≡ []) }
         requires unseen { sights.roll.items ≡ [] }

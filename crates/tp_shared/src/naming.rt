@@ -34,6 +34,9 @@ pub trait Naming {
     /// The bytes that groups may fill in an area of the device; `None` without a device.
     ghost room: { Option ℕ };
 
+    /// How many bytes each port had accepted before the first entry.
+    ghost accepted: { ℕ → ℕ };
+
     /// The network of the images with which the device was formatted.
     ghost formatted: { Network NodeState };
 
@@ -59,6 +62,8 @@ impl Naming for Brand {
     ghost sights = { 0 };
 
     ghost room = { None };
+
+    ghost accepted = { λ p. 0 };
 
     ghost formatted = { record { wires = []; nodes = []; ports = []; lines = [] } };
 

@@ -66,7 +66,7 @@ impl<J: Naming> Shared<J> {
     /// Puts `parts` under locks. The names are those of `parts`: the caller picks them. The first key is the flusher's, and shows what is told
     /// of the book as it is. The other is the host's, and shows that nothing was handed in.
     pub fn start(parts: Parts) -> (Shared<J>, Key<Told>, HostKey<J>)
-        requires { Names J.roll J.first J.start J.node J.mark J.flusher J.host J.sights J.room parts }
+        requires { Names J.roll J.first J.start J.node J.mark J.flusher J.host J.sights J.room J.accepted parts }
         ensures first { J.first ≡ parts.first }
         ensures room { J.room ≡ parts.book.room }
         ensures key { (result.1.name ≡ J.flusher) × (result.1.value ≡ told_of J.before J.first (record { book = parts.book; all = []; numbered_from = J.first; frozen = frozen_in parts.seals })) }

@@ -62,6 +62,7 @@ pub use Rattle.tp_recover.proofs.Leaving.{none_leaves}
 pub use Rattle.tp_recover.specs.Reading.{LeavesNothingNew, has_read}
 pub use Rattle.tp_recover.specs.declared.unopened.Unopened.{Unopened}
 pub use Rattle.tp_shared.specs.Holds.{InHand}
+pub use Rattle.tp_shared.specs.Parted.{name_of}
 pub use Rattle.tp_shared.specs.Seals.{Stage}
 pub use Rattle.tp_shared.specs.TurnsMade.{HostTurnMade, TurnMade}
 pub use Rattle.tp_shared.specs.declared.node_turn.NodeTurn.{NodeTurn}

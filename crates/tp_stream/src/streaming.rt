@@ -102,7 +102,7 @@ fn stream_parts<
     stop: &mut P,
 ) -> (D, Result<Ended, StreamFault>)
     requires quantum { task.quantum ≤ MAX_STEPS }
-    requires names { Names J.roll J.first J.start J.node J.mark J.flusher J.host J.sights J.room device.parts }
+    requires names { Names J.roll J.first J.start J.node J.mark J.flusher J.host J.sights J.room J.accepted device.parts }
     requires stands { IsMadeOf device.opened.value device.parts device.raiser }
     requires bound { device.parts.book.room ≡ Some (room device.opened.value.head.topology device.opened.value.head.areas.length) }
     requires cut { IsCut t414_ends device.opened.value.head.topology device.opened.value.base device.opened.value.cut }

@@ -385,7 +385,7 @@ fn play<J: Naming, R: Wait>(
     story: &Story<'_>,
     told: Told,
 ) -> Option<Left>
-    requires names { Names J.roll J.first J.start J.node J.mark J.flusher J.host J.sights J.room opening.parts }
+    requires names { Names J.roll J.first J.start J.node J.mark J.flusher J.host J.sights J.room J.accepted opening.parts }
     requires spelt { IsSpelt opening.opened.value }
     requires quantum { (0 < quantum) × (quantum ≤ MAX_STEPS) }
 {

@@ -100,7 +100,7 @@ fn is_taken_once<J: Naming + Send + Sync, R: Threads + Wait + Sync>(
     opening: Opening<MemDisk>,
 ) -> Result<bool, Fail>
     requires spelt { IsSpelt opening.opened.value }
-    requires names { Names J.roll J.first J.start J.node J.mark J.flusher J.host J.sights J.room opening.parts }
+    requires names { Names J.roll J.first J.start J.node J.mark J.flusher J.host J.sights J.room J.accepted opening.parts }
 {
     let alone = Alone {
         hold: Hold::new(HELD, RUN_DONE),

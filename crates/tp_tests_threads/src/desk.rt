@@ -86,7 +86,7 @@ pub(crate) fn begin<J: Naming, R: Wait>(
     quantum: u16,
     told: Told,
 ) -> Option<Desk<J>>
-    requires names { Names J.roll J.first J.start J.node J.mark J.flusher J.host J.sights J.room opening.parts }
+    requires names { Names J.roll J.first J.start J.node J.mark J.flusher J.host J.sights J.room J.accepted opening.parts }
     requires spelt { IsSpelt opening.opened.value }
     requires quantum { (0 < quantum) × (quantum ≤ MAX_STEPS) }
 {

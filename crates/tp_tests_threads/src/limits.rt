@@ -99,7 +99,7 @@ fn are_made<J: Naming, R: Wait>(
 
 /// Whether a network begins with `quantum` steps a turn and `seats` seats.
 fn starts<J: Naming, R: Wait>(rt: &R, alloc: Global, parts: Parts, quantum: u16, seats: u8) -> bool
-    requires names { Names J.roll J.first J.start J.node J.mark J.flusher J.host J.sights J.room parts }
+    requires names { Names J.roll J.first J.start J.node J.mark J.flusher J.host J.sights J.room J.accepted parts }
     requires quantum { (0 < quantum) × (quantum ≤ MAX_STEPS) }
     requires seats { (0 < seats) × (seats ≤ MAX_SEATS) }
 {

@@ -115,7 +115,7 @@ pub fn begin<J: Naming, D: Disk + Drop, G: Gate + Drop, R: Wait>(
     workers: u8,
     gate: G,
 ) -> Result<(Net<J, G>, Vec<Seat<J>>, Flusher<J, D>, Pass, HostKey<J>), AllocError>
-    requires names { Names J.roll J.first J.start J.node J.mark J.flusher J.host J.sights J.room opening.parts }
+    requires names { Names J.roll J.first J.start J.node J.mark J.flusher J.host J.sights J.room J.accepted opening.parts }
     requires spelt { IsSpelt opening.opened.value }
     requires workers { (0 < workers) × (workers ≤ MAX_SEATS) }
     ensures seats { IfOk result (λ begun. All (λ seat. (seat.hand.of ≡ Some begun.0.queue) × (seat.slips ≡ [])) begun.1.items) }
@@ -133,7 +133,7 @@ pub fn begin_with<J: Naming, D: Disk + Drop, G: Gate + Drop, R: Wait>(
     workers: u8,
     gate: G,
 ) -> Result<(Net<J, G>, Vec<Seat<J>>, Flusher<J, D>, Pass, HostKey<J>), AllocError>
-    requires names { Names J.roll J.first J.start J.node J.mark J.flusher J.host J.sights J.room opening.parts }
+    requires names { Names J.roll J.first J.start J.node J.mark J.flusher J.host J.sights J.room J.accepted opening.parts }
     requires spelt { IsSpelt opening.opened.value }
     requires quantum { (0 < quantum) × (quantum ≤ MAX_STEPS) }
     requires workers { (0 < workers) × (workers ≤ MAX_SEATS) }

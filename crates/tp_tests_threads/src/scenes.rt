@@ -286,7 +286,7 @@ fn play<J: Naming + Send + Sync, R: Threads + Wait + Sync>(
     scene: Scene<'_>,
 ) -> Result<bool, Fail>
     requires spelt { IsSpelt opening.opened.value }
-    requires names { Names J.roll J.first J.start J.node J.mark J.flusher J.host J.sights J.room opening.parts }
+    requires names { Names J.roll J.first J.start J.node J.mark J.flusher J.host J.sights J.room J.accepted opening.parts }
     requires workers { (0 < workers) × (workers ≤ MAX_SEATS) }
 {
     let first = opening.first;

@@ -55,7 +55,7 @@ impl<J: Naming, G: Gate + Drop> Net<J, G> {
         seats: u8,
         gate: G,
     ) -> Result<(Net<J, G>, Vec<Seat<J>>, Key<Told>, HostKey<J>), AllocError>
-        requires names { Names J.roll J.first J.start J.node J.mark J.flusher J.host J.sights J.room parts }
+        requires names { Names J.roll J.first J.start J.node J.mark J.flusher J.host J.sights J.room J.accepted parts }
         requires quantum { (0 < quantum) × (quantum ≤ MAX_STEPS) }
         requires seats { (0 < seats) × (seats ≤ MAX_SEATS) }
         ensures quantum { IfOk result (λ started. started.0.quantum ≡ quantum) }

@@ -12,7 +12,7 @@ use Rattle.tp_run.proofs.compacting.compact.Goals as goal
 
 pub compact_parts-requires-clause-names : goal.compact_parts-requires-clause-names
 compact_parts-requires-clause-names g c =
-    record { roll_is = refl; first_is = refl; wires_are = refl; count_is = refl; ports_are = refl; nodes_are = λ i. refl; mark_is = refl; flusher_is = refl; host_is = refl; sights_is = refl; room_is = refl }
+    record { roll_is = refl; first_is = refl; wires_are = refl; count_is = refl; ports_are = refl; nodes_are = λ i. refl; mark_is = refl; flusher_is = refl; host_is = refl; sights_is = refl; room_is = refl; accepted_is = λ p. refl }
 
 pub parts_of-requires : goal.parts_of-requires
 parts_of-requires g c =

@@ -1,5 +1,5 @@
 use Rattle.std.proofs.Common.{[]}
-use Rattle.tp_shared.specs.Parted.{name_of}
+use Rattle.tp_run.proofs.Lower.{port_in, accepted_of, name_of}
 use Rattle.tp_run.proofs.compacting.compact.Given as goal
 
 abbrev pub ghosts-compact_parts : goal.ghosts-compact_parts
@@ -13,6 +13,7 @@ ghosts-compact_parts g a = record {
   host = a.parts.host;
   sights = a.parts.sights;
   room = a.parts.book.room;
+  accepted = λ p. accepted_of (port_in a.parts.book p);
   formatted = g.history.formatted;
   before = g.history.before;
 }

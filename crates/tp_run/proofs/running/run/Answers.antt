@@ -32,6 +32,7 @@ run_parts-requires-clause-names g c κs within =
       host_is = refl;
       sights_is = refl;
       room_is = refl;
+      accepted_is = λ p. refl;
     }
 
 pub returns-in-Err-clause-ran : goal.returns-in-Err-clause-ran

@@ -1,4 +1,4 @@
-use Rattle.tp_shared.specs.Parted.{name_of}
+use Rattle.tp_run.proofs.Lower.{port_in, accepted_of, name_of}
 use Rattle.tp_run.proofs.running.run.Given as goal
 
 abbrev pub ghosts-run_parts : goal.ghosts-run_parts
@@ -12,6 +12,7 @@ ghosts-run_parts g a = record {
   host = a.parts.host;
   sights = a.parts.sights;
   room = a.parts.book.room;
+  accepted = λ p. accepted_of (port_in a.parts.book p);
   formatted = g.history.formatted;
   before = g.history.before;
 }

@@ -19,7 +19,7 @@ use Rattle.tp_stream.proofs.streaming.stream.Goals as goal
 
 pub stream_parts-requires-clause-names : goal.stream_parts-requires-clause-names
 stream_parts-requires-clause-names g c κs within =
-    record { roll_is = refl; first_is = refl; wires_are = refl; count_is = refl; ports_are = refl; nodes_are = λ i. refl; mark_is = refl; flusher_is = refl; host_is = refl; sights_is = refl; room_is = refl }
+    record { roll_is = refl; first_is = refl; wires_are = refl; count_is = refl; ports_are = refl; nodes_are = λ i. refl; mark_is = refl; flusher_is = refl; host_is = refl; sights_is = refl; room_is = refl; accepted_is = λ p. refl }
 
 pub returns-in-Err-clause-streamed : goal.returns-in-Err-clause-streamed
 returns-in-Err-clause-streamed g c k began =

@@ -1,5 +1,5 @@
 use Rattle.std.proofs.Common.{[]}
-use Rattle.tp_shared.specs.Parted.{name_of}
+use Rattle.tp_stream.proofs.Lower.{port_in, accepted_of, name_of}
 use Rattle.tp_stream.proofs.streaming.stream.Given as goal
 
 abbrev pub ghosts-stream_parts : goal.ghosts-stream_parts
@@ -13,6 +13,7 @@ ghosts-stream_parts g a = record {
   host = a.device.parts.host;
   sights = a.device.parts.sights;
   room = a.device.parts.book.room;
+  accepted = λ p. accepted_of (port_in a.device.parts.book p);
   formatted = g.history.formatted;
   before = g.history.before;
 }

@@ -3,4 +3,4 @@ use Rattle.tp_tests_threads.proofs.alone.plays.Goals as goal
 
 pub is_taken_once-requires-clause-names : goal.is_taken_once-requires-clause-names
 is_taken_once-requires-clause-names g c κs within =
-    record { roll_is = refl; first_is = refl; wires_are = refl; count_is = refl; ports_are = refl; nodes_are = λ i. refl; mark_is = refl; flusher_is = refl; host_is = refl; sights_is = refl; room_is = refl }
+    record { roll_is = refl; first_is = refl; wires_are = refl; count_is = refl; ports_are = refl; nodes_are = λ i. refl; mark_is = refl; flusher_is = refl; host_is = refl; sights_is = refl; room_is = refl; accepted_is = λ p. refl }

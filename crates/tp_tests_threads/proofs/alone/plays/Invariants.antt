@@ -1,5 +1,5 @@
 use Rattle.std.proofs.Common.{[]}
-use Rattle.tp_tests_threads.proofs.Lower.{fresh, Resting, name_of}
+use Rattle.tp_tests_threads.proofs.Lower.{port_in, accepted_of, fresh, Resting, name_of}
 use Rattle.tp_tests_threads.proofs.alone.plays.Given as goal
 
 -- No history is told of: nothing here speaks of crashes.
@@ -14,6 +14,7 @@ ghosts-is_taken_once g a = record {
   host = a.opening.parts.host;
   sights = a.opening.parts.sights;
   room = a.opening.parts.book.room;
+  accepted = λ p. accepted_of (port_in a.opening.parts.book p);
   formatted = a.opening.parts.book.state.start;
   before = record { net = fresh a.opening.parts.book.state.start; base = 0; journal = []; disk = record { bytes = []; unsynced = [] }; at = Resting; backlog = []; stored = 0; mark = 0; seen = [] };
 }

@@ -1,5 +1,6 @@
-use Rattle.std.proofs.Common.{◌≡◌, ◌+◌, ◌≤◌, List, length, sym, ap, subst, ◌∙◌, arith}
+use Rattle.std.proofs.Common.{◌≡◌, ◌+◌, ◌≤◌, ℕ, List, [], length, sym, ap, subst, ◌∙◌, arith}
 use Rattle.tp_shared.proofs.Lower.{Entry, next_in_book}
+use Rattle.tp_shared.specs.BytesIn.{bytes_in}
 use Rattle.tp_shared.specs.Frozen.{frozen_in}
 use Rattle.tp_shared.specs.HandedIn.{handed}
 use Rattle.tp_shared.specs.Positions.{IsNumberedFrom}
@@ -11,6 +12,10 @@ use Rattle.tp_shared.proofs.Positioned.{positions_below}
 use Rattle.tp_shared.proofs.Telling.{since_none}
 use Rattle.tp_shared.proofs.Writing.{paired}
 use Rattle.tp_shared.proofs.locked.Locked.new.Goals as goal
+
+-- a port to which no entry has handed anything
+none_in : (accepted : ℕ → ℕ) (p : ℕ) (es : List Entry) → es ≡ [] → accepted p ≡ accepted p + length (bytes_in p es)
+none_in accepted p es none = let short = ap (λ xs. length (bytes_in p xs)) none in omega (arith, short)
 
 pub invariant_of-result : goal.invariant_of-result
 invariant_of-result g c =
@@ -38,5 +43,6 @@ invariant_of-result g c =
       reaches = subst (λ (t : Told). t.numbered_from ≤ t.base + length t.net.entries) (sym is) (omega (arith, last));
       host_is = c.requires.given.0;
       given_is = c.requires.given.1 ∙ ap handed (sym c.requires.roll.2);
+      fed = λ p below. c.requires.accepted p ∙ none_in g.J.Naming.accepted p c.args.roll.items c.requires.roll.2;
       seen = seen_none _ _ _ c.requires.unseen;
     }

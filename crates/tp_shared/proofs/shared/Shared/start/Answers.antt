@@ -1,4 +1,5 @@
 use Rattle.std.proofs.Common.{ap, sym, ◌∙◌, length, arith}
+use Rattle.tp_book.specs.Host.{port_in, accepted_of}
 use Rattle.tp_shared.specs.Parted.{name_of}
 use Rattle.tp_shared.proofs.Dealing.{row_start, sealed_named}
 use Rattle.tp_shared.proofs.shared.Shared.start.Goals as goal
@@ -55,3 +56,6 @@ new-requires-clause-wires g c =
 
 pub over-requires : goal.over-requires
 over-requires g c = ap (λ v. v.sights) c.parts.view_is ∙ c.requires.sights_is
+
+pub new-requires-clause-accepted : goal.new-requires-clause-accepted
+new-requires-clause-accepted g c p = ap (λ v. accepted_of (port_in v.book p)) c.parts.view_is ∙ c.requires.accepted_is p
