@@ -73,6 +73,7 @@ pub use Rattle.tp_flush.specs.Ends.{Ended, Rested}
 pub use Rattle.tp_flush.specs.Flushing.{Flushing, IsSameProcess, Walked, position}
 pub use Rattle.tp_flush.specs.Follows.{Follows}
 pub use Rattle.tp_flush.specs.Known.{Began, Reached}
+pub use Rattle.tp_flush.specs.Lower.{item_of}
 pub use Rattle.tp_flush.specs.Made.{IsMadeOf}
 pub use Rattle.tp_flush.specs.Settled.{HasFront, RecoversWith, SlipsStand}
 pub use Rattle.tp_flush.specs.declared.fault.FlushFault.{FlushFault}

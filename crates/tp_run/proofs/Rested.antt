@@ -5,7 +5,7 @@ use Rattle.tp_run.proofs.Lower.{take_all, NodeState, t414, Network, plain_networ
 use Rattle.tp_run.specs.declared.fault.RunFault.{RunFault}
 use Rattle.tp_run.specs.Rested.{LeadsToRest, RestsAt, SaysRest}
 use Rattle.tp_run.proofs.Shown.{nothing_in}
-use Rattle.tp_run.proofs.Runs.{if_both}
+use Rattle.tp_run.proofs.Compacts.{if_both}
 
 -- a book that the journal is all of
 leads_rest : (start : Network NodeState) (w : World NodeState) (b : BookValue) (next : ℕ) (rest : Rest) → IsAheadOf start w b → next ≤ w.mark → next_in_book b ≡ next → rest ≡ rest_in (plain_network (world_of b).live)

@@ -11,12 +11,8 @@ use Rattle.tp_run.specs.Prints.{ComesSilent}
 use Rattle.tp_run.specs.Outlet.{OutletValue}
 use Rattle.tp_run.specs.Ran.{Carried, IsPrinted, Ran, RanInto, Settled}
 use Rattle.tp_run.specs.Shown.{HasPrinted, IsUpTo, MayPrint}
-use Rattle.tp_run.proofs.Compacts.{one_opened}
+use Rattle.tp_run.proofs.Compacts.{if_both, one_opened}
 use Rattle.tp_run.proofs.HandedOver.{unhanded}
-
-pub if_both : {A E : Type 0} (r : Result A E) (P Q R : A → Type 0) → ((x : A) → P x → Q x → R x) → IfOk r P → IfOk r Q → IfOk r R
-if_both (Ok x) P Q R turn p q = turn x p q
-if_both (Err e) P Q R turn p q = p
 
 -- The law of slips that are in a journal.
 abbrev pub SlipsAreRecovered : Type 0

@@ -1,6 +1,6 @@
 -- What compacting leaves of a device, even if a crash ends it early.
-use Rattle.std.specs.Prelude.{◌≡◌, ◌≤◌, ◌⊎◌, ℕ, ◌+◌, Bool, true, false, List, [], drop, Option, Some, None, Result, Ok, Err, IfOk}
-use Rattle.tp_run.specs.Lower.{Entry, OpenFault, NodeState, Network, Topology, is_full_for_snapshot, Opened, next_of, verdict, MayBe, State, LeavesOnly, handed, Refusal}
+use Rattle.std.specs.Prelude.{◌≡◌, ◌≤◌, ◌⊎◌, ℕ, ◌+◌, Bool, true, false, List, [], length, drop, Option, Some, None, Result, Ok, Err, IfOk}
+use Rattle.tp_run.specs.Lower.{World, Entry, OpenFault, NodeState, Network, Topology, is_full_for_snapshot, Opened, next_of, verdict, MayBe, State, LeavesOnly, handed, Refusal}
 use Rattle.tp_book.specs.declared.refusal.Refusal.TheVariants as refusal
 use Rattle.tp_run.specs.Lower.{Follows, journal_of, entries_left, FlushFault}
 use Rattle.tp_flush.specs.declared.fault.FlushFault.TheVariants as flush
@@ -67,6 +67,10 @@ begin_fault refusal.PortFull = Some NotWhole
 abbrev pub IsBeginFault : CompactFault → Type 0
 IsBeginFault fault = (fault ≡ Memory) ⊎ (fault ≡ NotWhole)
 
+-- The journal of a world has no entry from the number `first` on, and the mark is no number above the journal's.
+abbrev pub AddsNone : ℕ → World NodeState → Type 0
+AddsNone first w = (length w.journal ≤ first) × (w.mark ≤ length w.journal)
+
 -- The device opened, and its generation is one more than before. Its journal takes no more entries than fit into its areas, and no more than there
 -- are numbers left.
 pub record GrewByOne (given : Result Opened OpenFault) (done : Compaction) : Type 0 where
@@ -77,11 +81,11 @@ pub record GrewByOne (given : Result Opened OpenFault) (done : Compaction) : Typ
 
 -- A crash at any moment leaves one of two things. Either a crash just before the call might have left it, too; or it opens to the network that a
 -- prefix of the journal leads to. That prefix begins with the journal that the device had at the opening, and has all of it. Once the call was done,
--- the prefix has each entry below the answered number, which is no less than the device's next number was at the opening. The host handed in nothing:
--- since the opening, the journal has no input and no entry that confirms outputs.
+-- the prefix is this journal: no entry was added, and the answered number is the device's next one, as it was at the opening. The host handed in
+-- nothing: since the opening, the journal has no input and no entry that confirms outputs.
 pub record Compacted (start : Network NodeState) (result : Result Compaction CompactFault) (old new : State) : Type 0 where
   pub journal : List Entry
   pub leaves : LeavesOnly old new (λ left. MayBe old.now left ⊎ Follows start journal 0 old.now.bytes left)
   pub stored : IfOk result (λ done. (left : List ℕ) → MayBe new.now left → Follows start journal done.next old.now.bytes left)
-  pub no_fewer : IfOk result (λ done. (opened : Opened) → verdict old.now.bytes ≡ Ok opened → next_of opened ≤ done.next)
+  pub none_added : IfOk result (λ done. (opened : Opened) → verdict old.now.bytes ≡ Ok opened → (done.next ≡ next_of opened) × (length journal ≡ next_of opened))
   pub untouched : (opened : Opened) → verdict old.now.bytes ≡ Ok opened → handed (drop (next_of opened) journal) ≡ []

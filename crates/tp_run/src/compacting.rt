@@ -1,8 +1,8 @@
 //! Compacting a device: its network as it is becomes the cut, and its journal becomes empty.
 
-ghost use Rattle.std.specs.Prelude.{◌≡◌, ◌≤◌, ◌+◌, true, false, Ok, Err, Some, None, IfOk, IfSome, IsErr, MatchResult};
-ghost use Rattle.tp_run.specs.Lower.{AllByRecursion, place_at, IsSameProcess, Walked, Began, IsNodeOfBytes, entries_left, IsSynced, is_full_for_snapshot, is_roomy, room, t414_ends, verdict, IsCut, Resting, LeavesNothingNew, Unopened, IsMadeOf, Names};
-ghost use Rattle.tp_run.specs.Compacted.{CompactAnswer, Compacted, GrewByOne, IsBeginFault, SaysLast, StaysUnopened, begin_fault, flush_fault, has_failed_in, room_behind};
+ghost use Rattle.std.specs.Prelude.{◌≡◌, ◌≤◌, ◌+◌, [], length, true, false, Ok, Err, Some, None, IfOk, IfSome, IsErr, MatchResult};
+ghost use Rattle.tp_run.specs.Lower.{AllByRecursion, place_at, IsSameProcess, Walked, Began, IsNodeOfBytes, entries_left, IsSynced, is_full_for_snapshot, is_roomy, room, t414_ends, next_of, verdict, IsCut, Resting, LeavesNothingNew, Unopened, IsMadeOf, Names};
+ghost use Rattle.tp_run.specs.Compacted.{AddsNone, CompactAnswer, Compacted, GrewByOne, IsBeginFault, SaysLast, StaysUnopened, begin_fault, flush_fault, has_failed_in, room_behind};
 ghost use Rattle.tp_run.specs.Failures.{failures_after};
 ghost use Rattle.tp_run.specs.Ran.{History};
 
@@ -21,7 +21,7 @@ use tp_model::limits::NUMBER_LIMIT;
 use tp_net::Topology;
 use tp_ready::Raiser;
 use tp_recover::{Opened, Unopened, entries_left, open};
-use tp_shared::{Naming, Parts, Shared};
+use tp_shared::{Naming, Parts, Seat, Shared};
 
 /// What a compacted device has: the number of its next entry (`next`), the generation of its cut (`generation`), and how many entries its journal
 /// takes before it is full (`room`).
@@ -41,8 +41,8 @@ pub enum CompactFault {
     NoGeneration,
     /// A call of the device failed.
     DeviceFailed,
-    /// The cut didn't become whole, or a snapshot couldn't begin for a reason other than memory. Neither occurs, since nothing runs; that is tested,
-    /// but not proved.
+    /// The cut didn't become whole, a snapshot couldn't begin for a reason other than memory, or an entry was added. None of these occurs, since
+    /// nothing runs; that is tested, but not proved.
     NotWhole,
     /// Out of memory, at any step.
     Memory,
@@ -142,21 +142,46 @@ fn fault_in(fault: FlushFault) -> CompactFault
     }
 }
 
-/// Makes the network as it is one cut, and switches the store to the area that has it. `journal` says how many entries an area takes. Fails with
-/// `NoGeneration` if the generation is the last one; otherwise as the snapshot and the flusher's turn fail.
+/// Tells whether no entry was made since the opening, after which the next one was to get the number `first`, and all entries are stored. `seat` has
+/// no slip. The function changes nothing.
+fn adds_none<J: Naming, D: Disk, R: Wait>(
+    rt: &R,
+    shared: &Shared<J>,
+    flusher: &mut Flusher<J, D>,
+    seat: &mut Seat<J>,
+    first: u64,
+) -> bool
+    requires first { first ≡ J.first }
+    requires empty { seat.old ≡ [] }
+    ensures same { flusher.new ≡ flusher.old }
+    ensures none { result ≡ true → D.keeps → Began J.formatted J.before flusher.old.opened → AddsNone J.first flusher.old.world }
+{
+    let mut held = shared.book().lock(rt);
+    flusher.settle_book(&mut held);
+    flusher.settle_all(&mut held, seat, first)
+}
+
+/// Makes the network as it is one cut, and switches the store to the area that has it. `journal` says how many entries an area takes, `first` which
+/// number the next entry was to get at the opening. `seat` has no slip. Fails with `NoGeneration` if the generation is the last one; otherwise as the
+/// snapshot and the flusher's turn fail.
 fn switch_all<J: Naming, D: Disk, R: Wait>(
     rt: &R,
     alloc: Global,
     shared: &Shared<J>,
     flusher: &mut Flusher<J, D>,
+    seat: &mut Seat<J>,
+    first: u64,
     journal: JournalRoom,
 ) -> Result<Compaction, CompactFault>
     requires rests { flusher.old.world.at ≡ Resting }
+    requires first { first ≡ J.first }
+    requires empty { seat.old ≡ [] }
     ensures walks { D.keeps → Began J.formatted J.before flusher.old.opened → Walked flusher.old flusher.new }
     ensures process { IsSameProcess flusher.old flusher.new }
     ensures failures { flusher.new.failures ≡ failures_after (has_failed_in result) flusher.old.failures }
     ensures last { SaysLast result (is_full_for_snapshot flusher.old.place.generation) }
     ensures stored { IfOk result (λ done. done.next ≡ flusher.new.world.mark) }
+    ensures none { D.keeps → Began J.formatted J.before flusher.old.opened → IfOk result (λ done. AddsNone J.first flusher.new.world) }
     ensures switched { IfOk result (λ done. done.generation ≡ flusher.old.place.generation + 1) }
     ensures room { IfOk result (λ done. done.room ≤ entries_left 0 done.next journal) }
 {
@@ -172,7 +197,7 @@ fn switch_all<J: Naming, D: Disk, R: Wait>(
         Ok(flushed) => flushed,
         Err(fault) => return Err(fault_in(fault)),
     };
-    if !flushed.switched {
+    if !flushed.switched || !adds_none(rt, shared, flusher, seat, first) {
         return Err(CompactFault::NotWhole);
     }
     Ok(Compaction {
@@ -189,11 +214,13 @@ fn compact_parts<J: Naming, D: Disk, R: Wait>(
     rt: &R,
     alloc: Global,
     opened: Snapshot<Opened>,
+    first: u64,
     topology: Topology,
     parts: Parts,
     raiser: Raiser,
     store: Store<D>,
 ) -> (D, Result<Compaction, CompactFault>)
+    requires first { first ≡ next_of opened.value }
     requires names { Names J.roll J.first J.start J.node J.mark J.flusher J.host J.sights J.room J.accepted parts }
     requires stands { IsMadeOf opened.value parts raiser }
     requires bound { parts.book.room ≡ Some (room opened.value.head.topology opened.value.head.areas.length) }
@@ -212,11 +239,12 @@ fn compact_parts<J: Naming, D: Disk, R: Wait>(
     ensures failures { D.failures_of result.0 ≡ failures_after (has_failed_in result.1) (D.failures_of store.disk) }
     ensures last { SaysLast result.1 (is_full_for_snapshot store.place.generation) }
 {
-    let (shared, told, mut key) = Shared::<J>::start(parts);
+    let (mut shared, told, mut key) = Shared::<J>::start(parts);
+    let mut seat = shared.seat();
     let journal = JournalRoom::of(&topology, store.place.areas.length);
     let mut flusher = Flusher::over(opened, topology, store, told, raiser);
     flusher.known();
-    let done = switch_all(rt, alloc, &shared, &mut flusher, journal);
+    let done = switch_all(rt, alloc, &shared, &mut flusher, &mut seat, first, journal);
     flusher.settle_host_under(rt, &shared, &mut key);
     (flusher.into_disk(), done)
 }
@@ -226,9 +254,8 @@ fn compact_parts<J: Naming, D: Disk, R: Wait>(
 ///
 /// A crash at any moment of the call leaves one of two things. Either a crash just before the call might have left it, too; or it opens to the
 /// network that a prefix of the journal leads to. That prefix has all that the device had. The store's contract says so (`Flusher::turn`,
-/// `Store::open_other`): until the new cut is whole and synced, the store writes only into the area that isn't open. After a call that was done, the
-/// prefix has each entry below the answered number. That number is no less than the device's next number was, and the generation is one more than
-/// before.
+/// `Store::open_other`): until the new cut is whole and synced, the store writes only into the area that isn't open. A call that was done has added no
+/// entry: the prefix is then the whole journal that the device had, and the answered number is its next one. The generation is one more than before.
 ///
 /// Fails with `Opening` for the reason that opening gives. Fails with `NoGeneration` if the device's generation is the last one. Fails with
 /// `DeviceFailed` if a call of the device failed after the opening. It says that a call failed exactly if one did.
@@ -254,11 +281,12 @@ pub fn compact<D: Disk, R: Wait>(
     };
     opened.known();
     let known = Snapshot::of(&opened);
+    let first = opened.next();
     let topology = topology_of(&opened);
     let _areas = opened.head().areas();
     let store = opened.store(disk);
     let Ok((parts, raiser, _)) = parts_of(alloc, opened, 0, 0) else {
         return (store.into_disk(), Err(CompactFault::Memory));
     };
-    compact_parts::<Brand, D, R>(rt, alloc, known, topology, parts, raiser, store)
+    compact_parts::<Brand, D, R>(rt, alloc, known, first, topology, parts, raiser, store)
 }

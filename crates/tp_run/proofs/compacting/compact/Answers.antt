@@ -3,9 +3,8 @@ use Rattle.tp_run.proofs.Lower.{Moment, Topology, Began, Opened, Place, has_shap
 use Rattle.tp_run.specs.declared.compacting.CompactFault.TheVariants.{Opening, Memory}
 use Rattle.tp_run.specs.Compacted.{Compacted, SaysLast, has_failed_in}
 use Rattle.tp_run.specs.Compacted.{room_behind}
-use Rattle.tp_run.proofs.Runs.{if_both}
 use Rattle.tp_run.proofs.Answered.{compact_answered}
-use Rattle.tp_run.proofs.Compacts.{last_compacted, opened_compacted, unwritten_compacted}
+use Rattle.tp_run.proofs.Compacts.{if_both, last_compacted, opened_compacted, unwritten_compacted}
 use Rattle.tp_run.proofs.Failures.{opening_counted}
 use Rattle.tp_run.specs.Failures.{failures_after}
 use Rattle.tp_run.proofs.compacting.compact.Goals as goal

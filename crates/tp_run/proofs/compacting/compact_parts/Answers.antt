@@ -1,6 +1,8 @@
 use Rattle.std.proofs.Common.{◌≡◌, [], drop, Ok, sym, ap, subst, ◌∙◌}
+use Rattle.std.specs.Prelude.{IfOk}
 use Rattle.tp_run.proofs.Lower.{Place, is_full_for_snapshot, NodeState, State, held_of, next_of, verdict, World, reopened, handed, Flushing, Began}
-use Rattle.tp_run.specs.Compacted.{Compacted, SaysLast, has_failed_in}
+use Rattle.tp_run.specs.Compacted.{AddsNone, Compacted, SaysLast, has_failed_in}
+use Rattle.tp_run.specs.declared.compacting.Compaction.{Compaction}
 use Rattle.tp_run.specs.Failures.{failures_after}
 use Rattle.tp_run.proofs.Compacts.{walked_compacted}
 use Rattle.tp_run.proofs.HandedOver.{none_handed}
@@ -30,14 +32,17 @@ returns-clause-kept g c k began =
     let none : handed (drop g.J.Naming.first new.world.journal) ≡ [] = none_handed c.start-shared.result.2 new.world.journal g.J.Naming.first c.start-shared.ensures.host (c.settle_host_under.ensures.handed k later) in
     let untouched : handed (drop (next_of opened) new.world.journal) ≡ [] =
     subst (λ n. handed (drop n new.world.journal) ≡ []) (sym c.requires.names.first_is ∙ c.requires.stands.first) none in
+    let added : IfOk done (λ (done : Compaction). AddsNone (next_of opened) new.world) =
+    subst (λ n. IfOk done (λ (done : Compaction). AddsNone n new.world)) (sym c.requires.names.first_is ∙ c.requires.stands.first) (c.switch_all-done.ensures.none k first) in
     let kept : Compacted start done old.state new.state =
-    walked_compacted start before opened old new done (c.known.ensures.reached k first) there reads world (c.switch_all-done.ensures.walks k first) c.switch_all-done.ensures.stored untouched in
+    walked_compacted start before opened old new done (c.known.ensures.reached k first) there reads world (c.switch_all-done.ensures.walks k first) c.switch_all-done.ensures.stored added untouched in
     subst (λ s. Compacted start done (g.D.Disk.state c.args.store.disk) s) (sym (c.into_disk.ensures.state ∙ ap (λ (f : Flushing). f.state) c.settle_host_under.ensures.same.0)) (subst (λ s. Compacted start done s new.state) c.over-flusher.ensures.device.0 kept)
 
 -- ## Which fault
 
 pub switch_all-done-requires : goal.switch_all-done-requires
-switch_all-done-requires g c = record { rests = ap (λ (w : World NodeState). w.at) c.over-flusher.ensures.world }
+switch_all-done-requires g c =
+    record { rests = ap (λ (w : World NodeState). w.at) c.over-flusher.ensures.world; first = c.requires.first ∙ sym (sym c.requires.names.first_is ∙ c.requires.stands.first); empty = c.seat-seat.ensures.empty }
 
 pub returns-clause-failures : goal.returns-clause-failures
 returns-clause-failures g c =
