@@ -19,7 +19,8 @@ pub use Rattle.tp_area.specs.Places.{place_at}
 pub use Rattle.tp_area.specs.declared.front.AreaFront.{AreaFront}
 pub use Rattle.tp_recover.proofs.Areas.{generation_of-content}
 pub use Rattle.tp_recover.proofs.Leaving.{then_leaves}
-pub use Rattle.tp_recover.specs.Copies.{CopyAnswer, HasStayed, IsCopy, area_kept, kept_start}
+pub use Rattle.tp_recover.specs.Copies.{AskedLast, CopyAnswer, HasStayed, IsCopy, area_kept, kept_start}
+pub use Rattle.tp_recover.specs.declared.copying.Copied.{Copied}
 pub use Rattle.tp_recover.specs.declared.unopened.Unopened.{Unopened}
 pub use Rattle.tp_stream_files.specs.declared.ending.Ended.{Ended}
 pub use Rattle.tp_run.specs.Answered.{AnswerFor}

@@ -1,6 +1,6 @@
 -- What `backup` makes and prints.
 use Rattle.std.specs.Prelude.{◌≡◌, ℕ, List, [], ◌∷◌, ◌++◌, codes, Ok, Option}
-use Rattle.tp_program.specs.Lower.{decimal, Appends, IsCopy, area_kept, CopyFault, NotRead, NotWritten, NoMemory, Refusal, ReadFailed, DeviceFailed, Memory, Moment, Opened, verdict}
+use Rattle.tp_program.specs.Lower.{decimal, Appends, AreaAsked, AskedLast, IsCopy, area_kept, CopyFault, NotRead, NotWritten, NoMemory, Refusal, ReadFailed, DeviceFailed, Memory, Moment, Opened, State, verdict}
 
 -- the line that is printed of a copy: the number of its next entry
 abbrev pub copied_line : ℕ → List ℕ
@@ -12,6 +12,13 @@ pub record IsBackup (source before : List ℕ) (copy : Moment) (next : ℕ) : Ty
   pub opened : Opened
   pub is : verdict source ≡ Ok opened
   pub copied : IsCopy (area_kept opened) source before copy next
+
+-- The device's last call asked for the gate and the generation of the area to which the device was opened, and the gate was open, with its
+-- generation. The device is in the state `left` after that. If it keeps the model, the opening is that of the bytes `source`.
+pub record FoundAsOpened (keeps : Type 0) (source : List ℕ) (left : State) (asked : AreaAsked) : Type 0 where
+  pub opened : Opened
+  pub is : keeps → verdict source ≡ Ok opened
+  pub last : AskedLast (area_kept opened) left asked
 
 -- The text is the line of a copy.
 pub record IsCopiedLine (text : List ℕ) : Type 0 where

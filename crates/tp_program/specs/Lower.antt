@@ -22,8 +22,9 @@ pub use Rattle.tp_model.specs.declared.limits.TheConstants.{MAX_STEPS}
 unfoldable pub use Rattle.tp_net.specs.NodeNames.{node_names}
 pub use Rattle.tp_turn.specs.Tried.{fresh_image}
 pub use Rattle.tp_area.specs.Formatting.{Formatted, IsOldOrNew}
-pub use Rattle.tp_recover.specs.Copies.{CopyAnswer, IsCopy, area_kept}
+pub use Rattle.tp_recover.specs.Copies.{AskedLast, CopyAnswer, IsCopy, area_kept}
 pub use Rattle.tp_recover.specs.Reading.{LeavesNothingNew}
+pub use Rattle.tp_recover.specs.declared.asked.AreaAsked.{AreaAsked}
 pub use Rattle.tp_recover.specs.declared.fault.CopyFault.{CopyFault}
 pub use Rattle.tp_recover.specs.declared.fault.CopyFault.TheVariants.{DeviceFailed as NotWritten, Memory as NoMemory, ReadFailed as NotRead}
 pub use Rattle.tp_recover.specs.declared.unopened.Unopened.{Unopened}

@@ -1,14 +1,14 @@
 //! `tpnet backup`, over any device and any copy.
 
-ghost use Rattle.std.specs.Prelude.{◌≡◌, IfErr, IfOk, IsErr, IsSomeAnd, string_bytes};
-ghost use Rattle.tp_program.specs.Lower.{CopyAnswer, area_kept, verdict, LeavesNothingNew};
-ghost use Rattle.tp_program.specs.Backups.{IsBackup, copied_line, copy_refusal};
+ghost use Rattle.std.specs.Prelude.{◌≡◌, IfErr, IfOk, IfSome, IsErr, IsSomeAnd, string_bytes};
+ghost use Rattle.tp_program.specs.Lower.{AskedLast, CopyAnswer, area_kept, verdict, LeavesNothingNew};
+ghost use Rattle.tp_program.specs.Backups.{FoundAsOpened, IsBackup, copied_line, copy_refusal};
 
 use std::alloc::{AllocError, Global};
 use std::io;
 use std::io::Write;
 use tp_disk::Disk;
-use tp_recover::{CopyFault, Opened, Unopened, copy_opened, open};
+use tp_recover::{Copied, CopyFault, Opened, Unopened, copy_opened, open};
 use tp_views::{Refusal, refuse, show_on};
 
 /// How many times a device is opened that another process writes meanwhile.
@@ -39,11 +39,12 @@ fn copy_or_refuse<D: Disk, K: Disk, E: Write>(
     copy: &mut K,
     opened: Opened,
     err: &mut E,
-) -> Result<Option<u64>, u8>
+) -> Result<Option<Copied>, u8>
     ensures status { IfErr result (λ status. status ≡ 1) }
     ensures kept { D.keeps → IfOk result (λ found. (D.state source.new).now ≡ (D.state source.old).now) }
     ensures leaves { D.keeps → LeavesNothingNew (D.state source.old) (D.state source.new) }
     ensures is { D.keeps → K.keeps → IfOk result (CopyAnswer (area_kept opened) (D.state source.old).now.bytes (K.state copy.old).now (K.state copy.new).now) }
+    ensures asked { IfOk result (λ found. IfSome found (λ copied. AskedLast (area_kept opened) (D.state source.new) copied.asked)) }
 {
     match copy_opened(alloc, source, copy, opened) {
         Ok(found) => Ok(found),
@@ -59,11 +60,12 @@ fn copy_once<D: Disk, K: Disk, E: Write>(
     source: &mut D,
     copy: &mut K,
     err: &mut E,
-) -> Result<Option<u64>, u8>
+) -> Result<Option<Copied>, u8>
     ensures status { IfErr result (λ status. status ≡ 1) }
     ensures kept { D.keeps → IfOk result (λ found. (D.state source.new).now.bytes ≡ (D.state source.old).now.bytes) }
     ensures leaves { D.keeps → LeavesNothingNew (D.state source.old) (D.state source.new) }
-    ensures copied { D.keeps → K.keeps → IfOk result (λ found. IsSomeAnd found (IsBackup (D.state source.old).now.bytes (K.state copy.old).now.bytes (K.state copy.new).now)) }
+    ensures copied { D.keeps → K.keeps → IfOk result (λ found. IsSomeAnd found (λ copied. IsBackup (D.state source.old).now.bytes (K.state copy.old).now.bytes (K.state copy.new).now copied.next)) }
+    ensures asked { IfOk result (λ found. IfSome found (λ copied. FoundAsOpened D.keeps (D.state source.old).now.bytes (D.state source.new) copied.asked)) }
     ensures unopened { D.keeps → IsErr (verdict (D.state source.old).now.bytes) → IsErr result }
 {
     match open(alloc, source) {
@@ -78,7 +80,8 @@ fn copy_once<D: Disk, K: Disk, E: Write>(
 
 /// Makes a copy of a device that another process may be running, over what is in `copy`, which must have at least as many bytes. Answers the number
 /// of the copy's next entry. Then the device opens, and the copy is synced and has all of it that counts. The copy opens to the areas, open area,
-/// generation, end of the groups and next number of the device.
+/// generation, end of the groups and next number of the device. The last call of the device asked for the gate and generation of the area that was
+/// copied, and it answered what opening had found (`asked`).
 ///
 /// If that fails, it says why, as `show` does if the device doesn't open, and fails with the status 1; then nothing is known of the copy. It writes
 /// nothing to the device, so a crash leaves there nothing that this call made.
@@ -87,17 +90,18 @@ pub fn backup_on<D: Disk, K: Disk, E: Write>(
     source: &mut D,
     copy: &mut K,
     err: &mut E,
-) -> Result<u64, u8>
+) -> Result<Copied, u8>
     ensures status { IfErr result (λ status. status ≡ 1) }
     ensures leaves { D.keeps → LeavesNothingNew (D.state source.old) (D.state source.new) }
-    ensures copied { D.keeps → K.keeps → IfOk result (IsBackup (D.state source.old).now.bytes (K.state copy.old).now.bytes (K.state copy.new).now) }
+    ensures copied { D.keeps → K.keeps → IfOk result (λ copied. IsBackup (D.state source.old).now.bytes (K.state copy.old).now.bytes (K.state copy.new).now copied.next) }
+    ensures asked { IfOk result (λ copied. FoundAsOpened D.keeps (D.state source.old).now.bytes (D.state source.new) copied.asked) }
     ensures unopened { D.keeps → IsErr (verdict (D.state source.old).now.bytes) → IsErr result }
 {
     let mut left = MAX_TRIES;
     while left > 0 {
         left -= 1;
-        if let Some(next) = copy_once(alloc, source, copy, err)? {
-            return Ok(next);
+        if let Some(copied) = copy_once(alloc, source, copy, err)? {
+            return Ok(copied);
         }
     }
     Err(refuse(err, Refusal::Busy))

@@ -172,7 +172,7 @@ fn fill_part<S: Devices<New = N>, N: Disk + Drop, D: Disk, E: Write>(
     let done = backup_on(alloc, source, &mut copy, err);
     let failure = devices.finish(copy);
     match done {
-        Ok(next) => match copied_line(alloc, next) {
+        Ok(copied) => match copied_line(alloc, copied.next) {
             Ok(text) => Ok(text),
             Err(_) => Err(Undone::Memory),
         },
