@@ -1,6 +1,6 @@
 -- What the program does for the words of a command line.
 use Rattle.std.specs.Prelude.{◌≡◌, ◌⊎◌, ◌≤◌, ◌++◌, ◌∷◌, ℕ, Bool, true, false, List, [], Option, Some, string_bytes}
-use Rattle.tp_program.specs.Lower.{Appends, Global, String, History, HasCommandPlaces, WasCommandTyped, Asked, Help, Try, Trace, TraceDevice, Check, Format, Runs, Compact, Recover, Show, Status, Command, Stream, Stop, Backup, Other, StreamRun, recovered, shown}
+use Rattle.tp_program.specs.Lower.{Appends, Global, String, History, HasCommandPlaces, IsRefusedLine, WasCommandTyped, Asked, Help, Try, Trace, TraceDevice, Check, Format, Runs, Compact, Recover, Show, Status, Command, CommandFault, Stream, Stop, Backup, Other, StreamRun, recovered, shown}
 use Rattle.tp_words.specs.declared.args.Asked.TheVariants.{View}
 use Rattle.tp_program.specs.Backups.{PrintsCopied}
 use Rattle.tp_program.specs.CompactFile.{CompactedFile}
@@ -107,7 +107,14 @@ pub record DidCommand (keeps new_keeps : Type 0) (history : History) (unread : T
   pub done : CommandDone keeps history unread command old new was now status
   pub files : CommandUsed keeps new_keeps command unused used was now status
 
+-- The words were refused, since no command takes them, or not with these values; or memory ran out. No device was opened, and no file.
+pub record RefusedWords (words : List (String Global)) (old new unused used : List DeviceCall) (was now : Option (List ℕ)) (status : ℕ) : Type 0 where
+  pub fault : CommandFault
+  pub reason : IsRefusedLine words fault
+  pub refused : WasRefused old new was now status
+  pub idle : used ≡ unused
+
 -- What the program did for the words of a command line: either it refused them, or it read them as a command, and did it.
 abbrev pub Answered : (keeps new_keeps : Type 0) → History → (unread : Type 0) → List (String Global) → (old new unused used : List DeviceCall) → (was now : Option (List ℕ)) → ℕ → Type 0
 Answered keeps new_keeps history unread words old new unused used was now status =
-    WasRefused old new was now status × (used ≡ unused) ⊎ DidCommand keeps new_keeps history unread words old new unused used was now status
+    RefusedWords words old new unused used was now status ⊎ DidCommand keeps new_keeps history unread words old new unused used was now status

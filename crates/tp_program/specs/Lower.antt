@@ -53,6 +53,7 @@ pub use Rattle.tp_stream.specs.declared.task.Task.{Task}
 pub use Rattle.tp_words.specs.Args.{IsInRange}
 unfoldable pub use Rattle.tp_words.specs.Args.{IsRun}
 pub use Rattle.tp_words.specs.Commands.{HasCommandPlaces, IsCommandInRange, WasCommandTyped}
+pub use Rattle.tp_words.specs.Refused.{IsRefusedLine}
 unfoldable pub use Rattle.tp_words.specs.StreamArgs.{IsStreamRun}
 pub use Rattle.tp_words.specs.Typed.{has_word}
 pub use Rattle.tp_words.specs.declared.args.Asked.{Asked}
@@ -62,6 +63,7 @@ pub use Rattle.tp_words.specs.declared.args.Run.{Run}
 pub use Rattle.tp_words.specs.declared.args.TheConstants.{MAX_AREA}
 pub use Rattle.tp_words.specs.declared.command.Command.{Command}
 pub use Rattle.tp_words.specs.declared.command.Command.TheVariants.{Backup, Other, Stop, Stream}
+pub use Rattle.tp_words.specs.declared.command.CommandFault.{CommandFault}
 pub use Rattle.tp_words.specs.declared.stop_args.StopRequest.{StopRequest}
 pub use Rattle.tp_words.specs.declared.stream_args.StreamRun.{StreamRun}
 pub use Rattle.tp_words.specs.declared.trace_args.ImageTrace.{ImageTrace}

@@ -1,4 +1,4 @@
-use Rattle.std.proofs.Common.{inr, rules}
+use Rattle.std.proofs.Common.{inl, inr, refl, arith, rules}
 use denote.Param.Send.{sendable}
 use Rattle.tp_program.proofs.Commands.{at_most_3, of_a_stream}
 use Rattle.tp_program.proofs.program.answer_over.Goals as goal
@@ -18,6 +18,14 @@ returns-in-Ok-clause-answered g c = inr (record {
   few = c.answer_command.ensures.few;
   done = c.answer_command.ensures.done;
   files = c.answer_command.ensures.used;
+})
+
+pub returns-in-Err-clause-answered : goal.returns-in-Err-clause-answered
+returns-in-Err-clause-answered g c = inl (record {
+  fault = c.in-Err.fault;
+  reason = c.in-Err.ensures.refused;
+  refused = record { refused = omega arith; unopened = refl; silent = refl };
+  idle = refl;
 })
 
 pub answer_command-requires : goal.answer_command-requires
