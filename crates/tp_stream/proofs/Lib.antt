@@ -7,6 +7,7 @@ pub mod Kept
 pub mod Looks
 pub mod Notices
 pub mod Offers
+pub mod HandedFrom
 pub mod Puts
 pub mod Quiets
 pub mod Runs

@@ -2,8 +2,8 @@
 pub use Rattle.std.proofs.Math.Bool.{or-true}
 pub use Rattle.std.proofs.Math.Path.{fun_ext}
 pub use Rattle.std.proofs.Math.Seq.{take-append_seam}
-pub use Rattle.std.proofs.lemmas.Bool.{and_from, and_parts, cases_lt, eq-eqb, le-leb, le-ltb, leb-false, leb-true, lt-leb, lt-ltb, ltb-true, ne_eqb, or_from, true≢false}
-pub use Rattle.std.proofs.lemmas.List.{drop-drop, length-map, map-append, map-set, set-get_or, take-take, take_all, take_more}
+pub use Rattle.std.proofs.lemmas.Bool.{and_from, and_parts, cases_eq, cases_lt, eq-eqb, le-leb, le-ltb, leb-false, leb-true, lt-leb, lt-ltb, ltb-true, ne_eqb, or_from, true≢false}
+pub use Rattle.std.proofs.lemmas.List.{drop-drop, length-map, map-append, map-set, set-get_or, take-append-drop, take-take, take_all, take_more}
 pub use Rattle.std.proofs.lemmas.List.Elements.{All-append, All-cons, All-nil}
 pub use Rattle.std.proofs.lemmas.List.Folds.{list_all_at, list_all_more, list_any_at, list_any_more, sum_by-replicate}
 pub use Rattle.std.proofs.lemmas.Option.{slice_get-get_or, slice_get-map, slice_get_within}
@@ -37,7 +37,7 @@ pub use Rattle.tp_model.specs.Topology.{Topology, node_count}
 pub use Rattle.tp_model.specs.Walks.{RecoversTo}
 pub use Rattle.tp_model.specs.WriteOrder.{Broken, Position, Resting}
 pub use Rattle.tp_model.specs.declared.entry.Entry.{Entry}
-pub use Rattle.tp_model.specs.declared.entry.Entry.TheVariants.{Confirm}
+pub use Rattle.tp_model.specs.declared.entry.Entry.TheVariants.{Confirm, HostIn}
 pub use Rattle.tp_model.specs.declared.limits.TheConstants.{MAX_HELD, NUMBER_LIMIT}
 pub use Rattle.tp_model.specs.declared.opening.OpenFault.{OpenFault}
 pub use Rattle.tp_law_machine.proofs.LinkLaws.{has_four_links}
@@ -47,6 +47,7 @@ pub use Rattle.tp_node.specs.NodeContents.{memory_kept}
 pub use Rattle.tp_node.specs.RunEnd.{IsWhy}
 pub use Rattle.tp_node.specs.declared.run.Why.{Why}
 pub use Rattle.tp_node.specs.declared.run.Why.TheVariants.{Full, Idle, NoFrame}
+pub use Rattle.tp_book.specs.Acts.{confirm_entries}
 pub use Rattle.tp_book.specs.Book.{BookValue, count_of_nodes, next_in_book, outputs_of, reserved, world_of}
 pub use Rattle.tp_book.specs.Counted.{AreCounted}
 pub use Rattle.tp_book.specs.Host.{accepted_of, port_in, shown_from, shown_of, shown_upto_of, with_confirmed}
@@ -61,6 +62,10 @@ pub use Rattle.tp_area.specs.declared.journal.JournalRoom.{JournalRoom}
 pub use Rattle.tp_recover.proofs.Leaving.{none_leaves}
 pub use Rattle.tp_recover.specs.Reading.{LeavesNothingNew, has_read}
 pub use Rattle.tp_recover.specs.declared.unopened.Unopened.{Unopened}
+pub use Rattle.tp_shared.proofs.BytesIn.{bytes_in-append, bytes_in-handed, bytes_in-other, bytes_in-same}
+pub use Rattle.tp_shared.specs.Accepted.{HaveAccepted}
+pub use Rattle.tp_shared.specs.BytesIn.{bytes_in}
+pub use Rattle.tp_shared.specs.HandedIn.{handed}
 pub use Rattle.tp_shared.specs.Holds.{InHand}
 pub use Rattle.tp_shared.specs.Parted.{name_of}
 pub use Rattle.tp_shared.specs.Seals.{Stage}
@@ -82,10 +87,11 @@ pub use Rattle.tp_flush.specs.Ends.{Rested}
 pub use Rattle.tp_flush.specs.Flushing.{Flushing, IsSameProcess, Walked}
 pub use Rattle.tp_flush.specs.Follows.{Follows}
 pub use Rattle.tp_flush.specs.Known.{Began, Reached}
+pub use Rattle.tp_flush.specs.Settled.{HasFront}
 pub use Rattle.tp_flush.specs.declared.fault.FlushFault.{FlushFault}
 pub use Rattle.tp_stream_files.proofs.StreamEndsSinks.{none_put, reaches_less}
 pub use Rattle.tp_stream_files.specs.Held.{HasPut, HeldBytes, Reaches}
-pub use Rattle.tp_stream_files.specs.Inputs.{GivenInput, HasAtLeast, given_input, is_over}
+pub use Rattle.tp_stream_files.specs.Inputs.{AreFrom, GivenInput, HasAtLeast, given_input, is_over}
 pub use Rattle.tp_stream_files.specs.Notices.{HasCome, InputBegins, Notice, Noticed, OutputBegins}
 pub use Rattle.tp_stream_files.specs.Outputs.{Given, OutputValue, WasPutSafely, given_of}
 pub use Rattle.tp_stream_files.specs.declared.ending.Ended.{Ended}

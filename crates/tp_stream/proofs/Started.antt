@@ -1,6 +1,7 @@
 -- Networks that a device's parts are picked for.
-use Rattle.std.proofs.Common.{◌≡◌, length, sym, ap, ◌∙◌}
-use Rattle.tp_stream.proofs.Lower.{length-map, page_count, NodeState, Network, t414_ends, Opened, book_of, MarkedNetwork, IsCut, node_count, BookValue, world_of}
+use Rattle.std.proofs.Common.{◌≡◌, ℕ, get_or, length, sym, ap, ◌∙◌}
+use Rattle.tp_stream.proofs.Lower.{length-map, page_count, NodeState, Network, t414_ends, Opened, book_of, MarkedNetwork, IsCut, node_count, BookValue, world_of, accepted_of, port_in, fresh_value}
+use Rattle.tp_stream.specs.Standing.{accepted_opened}
 
 -- such a network has the nodes of the topology
 pub nodes_of : (o : Opened) (b : BookValue) (start : Network NodeState) → world_of b ≡ book_of o → IsCut t414_ends o.head.topology o.base o.cut → length b.state.start.nodes ≡ length start.nodes
@@ -15,3 +16,7 @@ ports_of o b start made same = sym same ∙ made
 pub wires_of : (o : Opened) (b : BookValue) (start : Network NodeState) → world_of b ≡ book_of o → IsCut t414_ends o.head.topology o.base o.cut → b.state.start.wires ≡ start.wires
     → start.wires ≡ o.head.topology.wires
 wires_of o b start world cut same = sym same ∙ ap (λ (n : MarkedNetwork NodeState). n.start.wires) world ∙ cut.wires
+
+-- what its ports have accepted
+pub accepted_made : (o : Opened) (b : BookValue) (p : ℕ) → world_of b ≡ book_of o → accepted_of (port_in b p) ≡ accepted_opened o p
+accepted_made o b p world = ap (λ (n : MarkedNetwork NodeState). accepted_of (get_or n.live.ports p fresh_value.port)) world

@@ -5,6 +5,7 @@ pub mod Failures
 pub mod Fitting
 pub mod Looks
 pub mod Offered
+pub mod HandedFrom
 pub mod Outcomes
 pub mod Over
 pub mod Put

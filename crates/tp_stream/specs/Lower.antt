@@ -43,6 +43,7 @@ pub use Rattle.tp_area.specs.declared.journal.JournalRoom.{JournalRoom}
 pub use Rattle.tp_recover.specs.Reading.{LeavesNothingNew, ReadAnswer}
 pub use Rattle.tp_recover.specs.declared.unopened.Unopened.{Unopened}
 pub use Rattle.tp_ready.specs.Seen.{unrisen}
+pub use Rattle.tp_shared.specs.BytesIn.{bytes_in}
 pub use Rattle.tp_shared.specs.Gains.{HoldNoted}
 pub use Rattle.tp_shared.specs.Holds.{InHand}
 pub use Rattle.tp_shared.specs.Named.{Names}

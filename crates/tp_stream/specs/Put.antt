@@ -1,8 +1,9 @@
 -- Which outputs were put into sinks, by the journal. "The network to which entries lead" is the one that they make of the network at the start.
 use Rattle.std.specs.Prelude.{◌≡◌, ◌⊎◌, ◌≤◌, ℕ, ◌+◌, ◌-◌, ◌==◌, Bool, true, ◌&&◌, nat_le, List, [], ◌∷◌, ◌++◌, length, map, get_or, take, drop, Result, Ok, Some, IfOk}
-use Rattle.tp_stream.specs.Lower.{list_all, Entry, NodeState, t414, Network, Port, after, LeavesOnly, State, moment, device_areas, Opened, next_of, verdict, RecoversTo, fresh_value, HasPut, OutputValue, given_of, Ended, Ending, Quiet, Turns, Gone, Halted, Stopped}
+use Rattle.tp_stream.specs.Lower.{list_all, Entry, NodeState, t414, Network, Port, after, LeavesOnly, State, moment, device_areas, Opened, next_of, verdict, RecoversTo, fresh_value, HasPut, OutputValue, given_of, Ended, Ending, Quiet, Turns, Gone, Halted, Stopped, GivenInput}
 use Rattle.tp_stream.specs.declared.fault.StreamFault.{StreamFault}
-use Rattle.tp_stream.specs.Standing.{from_of, stands_opened}
+use Rattle.tp_stream.specs.HandedFrom.{AreHandedFrom}
+use Rattle.tp_stream.specs.Standing.{accepted_opened, from_of, stands_opened}
 use Rattle.tp_stream.specs.Streamed.{Streamed}
 
 -- the port of a network; if there is no such port, one at which nothing has happened
@@ -88,14 +89,18 @@ pub record EndsPut (start : Network NodeState) (journal : List Entry) (why : End
   pub leads : after t414 start journal ≡ Some state
   pub each : are_put why (port_or_fresh state) outputs ≡ true
 
--- What a stream leaves, and what its sinks got by that journal. If the answer says so, they got all outputs. Or no sink has changed.
-pub record StreamedInto (start : Network NodeState) (result : Result Ended StreamFault) (was now : List OutputValue) (old new : State) : Type 0 where
+-- What a stream leaves, and what its sinks got by that journal. If the answer says so, they got all outputs. Or no sink has changed. All that the journal
+-- hands to ports since the opening comes from the stream's inputs.
+pub record StreamedInto (start : Network NodeState) (inputs : List GivenInput) (result : Result Ended StreamFault) (was now : List OutputValue) (old new : State) : Type 0 where
   pub streamed : Streamed start result old new
   pub outputs : (map given_of now ≡ map given_of was) ⊎ AreShown start streamed.journal was now old new
+  pub fed : (opened : Opened) → verdict old.now.bytes ≡ Ok opened → AreHandedFrom inputs (accepted_opened opened) (drop (next_of opened) streamed.journal)
   pub ends : IfOk result (λ ended. EndsPut start streamed.journal ended.why now)
 
--- What a stream leaves whose outputs were set out, and what its sinks got by that journal. If the answer says so, they got all outputs.
-pub record ServedInto (start : Network NodeState) (least : ℕ) (result : Result Ended StreamFault) (was now : List OutputValue) (old new : State) : Type 0 where
+-- What a stream leaves whose outputs were set out, and what its sinks got by that journal. If the answer says so, they got all outputs. All that the
+-- journal hands to ports, after its first `least` entries, comes from these inputs; before them each port had accepted as many bytes as `accepted` says.
+pub record ServedInto (start : Network NodeState) (least : ℕ) (inputs : List GivenInput) (accepted : ℕ → ℕ) (result : Result Ended StreamFault) (was now : List OutputValue) (old new : State) : Type 0 where
   pub streamed : Streamed start result old new
   pub outputs : EachWith (λ a b. Got start streamed.journal least a.next old new a b) was now
+  pub fed : AreHandedFrom inputs accepted (drop least streamed.journal)
   pub ends : IfOk result (λ ended. EndsPut start streamed.journal ended.why now)

@@ -191,6 +191,7 @@ pub(crate) fn begin_all<S: Sink, I: Source, L: Listener>(
     ensures inputs { OnOk result (AllHaveAccepted (accepted_at book.now) (map (λ i. given_input i.port (I.input i.source)) streams.old.inputs.items)) }
     ensures refused { IfErr result (IsNotBegun (length book.now.state.ports) (port_standing book.now mark) (accepted_at book.now) (map given_of streams.old.outputs.items) (map (λ i. given_input i.port (I.input i.source)) streams.old.inputs.items)) }
     ensures same { map given_of streams.new.outputs.items ≡ map given_of streams.old.outputs.items }
+    ensures unread { map (λ i. given_input i.port (I.input i.source)) streams.new.inputs.items ≡ map (λ i. given_input i.port (I.input i.source)) streams.old.inputs.items }
     ensures set { OnOk result (EachWith (IsSetOut (port_standing book.now mark)) streams.old.outputs.items streams.new.outputs.items) }
     ensures told { OnOk result (Noticed (map (output_begins (port_standing book.now mark)) (map given_of streams.old.outputs.items)
         ++ map (input_begins (accepted_at book.now)) (map (λ i. given_input i.port (I.input i.source)) streams.old.inputs.items)) (L.told listener.old) (L.told listener.new)) }

@@ -1,9 +1,10 @@
 //! The calling thread, which leads the workers.
 
 ghost use Rattle.std.specs.Prelude.{map, ◌≡◌, length, All, IfErr, Some, IfOk, IfSome};
-ghost use Rattle.tp_stream.specs.Lower.{list_all, is_over};
+ghost use Rattle.tp_stream.specs.Lower.{list_all, is_over, given_input};
 ghost use Rattle.tp_stream.specs.FailedEnds.{NamesEnd};
 ghost use Rattle.tp_stream.specs.Failures.{answer_failed};
+ghost use Rattle.tp_stream.specs.HandedFrom.{FedFrom};
 ghost use Rattle.tp_stream.specs.Looks.{HaveLooked};
 ghost use Rattle.tp_stream.specs.Quiet.{HaveRested};
 ghost use Rattle.tp_stream.specs.Served.{ServedAnswer, ServedOn};
@@ -70,6 +71,7 @@ impl<
         × IfOk back.5 (HaveLooked work.ground.pace.task (P.answers work.stop.now) (P.answers back.4.now))
         × ToldLater (length J.start.nodes) (L.told work.listener.now) (L.told back.3.now)
         × IfErr back.5 (NamesEnd back.2.now.outputs.items (map (λ i. i.port) back.2.now.inputs.items))
+        × FedFrom J.accepted (map (λ i. given_input i.port (I.input i.source)) work.streams.now.inputs.items) (map (λ i. given_input i.port (I.input i.source)) back.2.now.inputs.items) work.going.host back.0.host
         × (back.1.ghost_name ≡ work.flusher.ghost_name)
         × (back.2.ghost_name ≡ work.streams.ghost_name)
         × (back.3.ghost_name ≡ work.listener.ghost_name)
@@ -123,6 +125,7 @@ pub(crate) fn lead<
     ensures looks { IfOk result.1 (HaveLooked ground.entry.pace.task (P.answers stop.old) (P.answers stop.new)) }
     ensures told { ToldLater (length J.start.nodes) (L.told listener.old) (L.told listener.new) }
     ensures ends { IfErr result.1 (NamesEnd streams.new.outputs.items (map (λ i. i.port) streams.new.inputs.items)) }
+    ensures fed { FedFrom J.accepted (map (λ i. given_input i.port (I.input i.source)) streams.old.inputs.items) (map (λ i. given_input i.port (I.input i.source)) streams.new.inputs.items) going.host result.0.host }
 {
     let mut seats = seats;
     let mut seat = seats.pop();

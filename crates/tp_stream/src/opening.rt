@@ -56,6 +56,7 @@ pub(crate) fn parts_of<S: Sink, I: Source, L: Listener>(
     ensures inputs { OnOk result (AllHaveAccepted (accepted_opened opened) (map (λ i. given_input i.port (I.input i.source)) streams.old.inputs.items)) }
     ensures refused { IfErr result (λ fault. (fault ≡ Memory) ⊎ IsNotBegun (length opened.now.ports) (stands_opened opened) (accepted_opened opened) (map given_of streams.old.outputs.items) (map (λ i. given_input i.port (I.input i.source)) streams.old.inputs.items) fault) }
     ensures untouched { map given_of streams.new.outputs.items ≡ map given_of streams.old.outputs.items }
+    ensures unread { map (λ i. given_input i.port (I.input i.source)) streams.new.inputs.items ≡ map (λ i. given_input i.port (I.input i.source)) streams.old.inputs.items }
     ensures set { OnOk result (EachWith (IsSetOut (stands_opened opened)) streams.old.outputs.items streams.new.outputs.items) }
     ensures told { OnOk result (Noticed (map (output_begins (stands_opened opened)) (map given_of streams.old.outputs.items)
         ++ map (input_begins (accepted_opened opened)) (map (λ i. given_input i.port (I.input i.source)) streams.old.inputs.items)) (L.told listener.old) (L.told listener.new)) }

@@ -1,8 +1,9 @@
 //! Steps of all outputs and inputs of a network.
 
 ghost use Rattle.std.specs.Prelude.{◌≡◌, ◌<◌, ◌==◌, ◌-◌, ℕ, List, length, map, true, false, Ok, IfOk, IfSome, IfErr, OnErr, if◌then◌else◌};
-ghost use Rattle.tp_stream.specs.Lower.{JournalRoom, accepted_of, port_in, room_of, is_journal_full, Began, OutputValue};
+ghost use Rattle.tp_stream.specs.Lower.{JournalRoom, accepted_of, port_in, room_of, is_journal_full, Began, OutputValue, given_input};
 ghost use Rattle.tp_stream.specs.FailedEnds.{NamesEnd, NamesInput, NamesOutput};
+ghost use Rattle.tp_stream.specs.HandedFrom.{FedFrom, FeedsFrom, HandsNoBytes};
 ghost use Rattle.tp_stream.specs.Offered.{Offered};
 ghost use Rattle.tp_stream.specs.Outcomes.{AreTakersThere, StepCameTo, pumped_then};
 ghost use Rattle.tp_stream.specs.Put.{EachWith};
@@ -88,6 +89,7 @@ fn step_output<J: Naming, D: Disk, S: Sink>(
     ensures puts { PutsShown held.old.book flusher.now.world.mark output.old output.new }
     ensures begun { IfErr result CameBetween }
     ensures names { IfErr result (NamesOutput output.new.port) }
+    ensures unfed { HandsNoBytes host.old host.new }
     ensures book { IsConfirmed held.old.book held.new.book }
     ensures room { is_journal_full held.old.book 1 ≡ false → IfErr result OtherThanFull }
     ensures came { IfOk result (StepCameTo flusher.now.world.mark held.old.book held.new.book output.old output.new) }
@@ -114,6 +116,7 @@ fn step_all<J: Naming, D: Disk, S: Sink>(
     outputs: &mut [Output<S>],
 ) -> Result<Pumped, StreamFault>
     ensures puts { EachWith (PutsLeft held.old.book flusher.now.world.mark) outputs.old outputs.new }
+    ensures unfed { HandsNoBytes host.old host.new }
     ensures begun { IfErr result CameBetween }
     ensures ends { (inputs : List ℕ) → IfErr result (NamesEnd outputs.new inputs) }
     ensures room { (journal : JournalRoom) → UnreservedBook journal held.old.book → has_room_for journal held.old.book (length outputs.old) ≡ true → IfErr result OtherThanFull }
@@ -139,6 +142,7 @@ fn step_settled<J: Naming, D: Disk, S: Sink>(
     ensures same { flusher.new ≡ flusher.old }
     ensures put { D.keeps → Began J.formatted J.before flusher.old.opened
         → AllStepped J.formatted flusher.old flusher.old outputs.old outputs.new }
+    ensures unfed { HandsNoBytes host.old host.new }
     ensures begun { IfErr result CameBetween }
     ensures ends { (inputs : List ℕ) → IfErr result (NamesEnd outputs.new inputs) }
     ensures room { (journal : JournalRoom) → UnreservedBook journal held.old.book → has_room_for journal held.old.book (length outputs.old) ≡ true → IfErr result OtherThanFull }
@@ -164,6 +168,7 @@ fn step_outputs<J: Naming, D: Disk, S: Sink, R: Wait>(
     ensures same { flusher.new ≡ flusher.old }
     ensures put { D.keeps → Began J.formatted J.before flusher.old.opened
         → AllStepped J.formatted flusher.old flusher.old outputs.old outputs.new }
+    ensures unfed { HandsNoBytes host.old host.new }
     ensures begun { IfErr result CameBetween }
     ensures ends { (inputs : List ℕ) → IfErr result (NamesEnd outputs.new inputs) }
 {
@@ -188,6 +193,7 @@ fn step_held<J: Naming, I: Source>(
     ensures begun { IfErr result CameBetween }
     ensures names { IfErr result (NamesInput input.new.port) }
     ensures blocked { input.new.is_blocked ≡ (room_of (port_in held.old.book input.old.port) == 0) }
+    ensures same { (input.new.port ≡ input.old.port) × (I.input input.new.source ≡ I.input input.old.source) }
 {
     let at = held.book().accepted(input.port());
     input.block(held.book().room(input.port()) == 0);
@@ -212,8 +218,11 @@ fn step_input<J: Naming, I: Source, R: Wait>(
 ) -> Result<bool, StreamFault>
     ensures begun { IfErr result CameBetween }
     ensures names { IfErr result (NamesInput input.new.port) }
+    ensures same { (input.new.port ≡ input.old.port) × (I.input input.new.source ≡ I.input input.old.source) }
+    ensures fed { FeedsFrom (given_input input.old.port (I.input input.old.source)) J.accepted host.old host.new }
 {
     let mut held = shared.book().lock(rt);
+    held.compare_host(host);
     held.known();
     if input.port() >= shared.ports() {
         return Err(StreamFault::InputFailed(input.port()));
@@ -232,6 +241,7 @@ fn awaited_under<J: Naming, I: Source>(
     ensures port { IfSome result (λ found. found.0 < length held.now.book.state.ports) }
     ensures room { IfSome result (λ found. 0 < room_of (port_in held.now.book found.0)) }
     ensures at { IfSome result (λ found. found.1 ≡ accepted_of (port_in held.now.book found.0)) }
+    ensures same { map (λ i. given_input i.port (I.input i.source)) inputs.new ≡ map (λ i. given_input i.port (I.input i.source)) inputs.old }
 {
     if pace.rooms.free(held.book()) <= u64::from(pace.need) {
         return None;
@@ -255,7 +265,9 @@ fn find_awaited<J: Naming, I: Source, R: Wait>(
     shared: &Shared<J>,
     pace: Pace,
     inputs: &mut [Input<I>],
-) -> Option<(u8, u64)> {
+) -> Option<(u8, u64)>
+    ensures same { map (λ i. given_input i.port (I.input i.source)) inputs.new ≡ map (λ i. given_input i.port (I.input i.source)) inputs.old }
+{
     let held = shared.book().lock(rt);
     awaited_under(&held, pace, inputs)
 }
@@ -278,7 +290,9 @@ pub(crate) fn rest<J: Naming, I: Source, R: Wait>(
     shared: &Shared<J>,
     pace: Pace,
     inputs: &mut [Input<I>],
-) -> Rested {
+) -> Rested
+    ensures same { map (λ i. given_input i.port (I.input i.source)) inputs.new ≡ map (λ i. given_input i.port (I.input i.source)) inputs.old }
+{
     let Some((port, at)) = find_awaited(rt, shared, pace, inputs) else {
         return Rested::None;
     };
@@ -304,6 +318,7 @@ pub(crate) fn step_inputs<J: Naming, I: Source, R: Wait>(
     ensures begun { IfErr result CameBetween }
     ensures ends { (outputs : List OutputValue) → IfErr result (NamesEnd outputs (map (λ i. i.port) inputs.new)) }
     ensures there { IfOk result AreTakersThere }
+    ensures fed { FedFrom J.accepted (map (λ i. given_input i.port (I.input i.source)) inputs.old) (map (λ i. given_input i.port (I.input i.source)) inputs.new) host.old host.new }
 {
     let mut has_moved = false;
     for input in inputs.iter_mut() {
@@ -329,6 +344,7 @@ fn pump_inputs<J: Naming, I: Source, R: Wait>(
     ensures begun { IfErr result CameBetween }
     ensures ends { (outputs : List OutputValue) → IfErr result (NamesEnd outputs (map (λ i. i.port) inputs.new)) }
     ensures there { AreTakersThere put → IfOk result AreTakersThere }
+    ensures fed { FedFrom J.accepted (map (λ i. given_input i.port (I.input i.source)) inputs.old) (map (λ i. given_input i.port (I.input i.source)) inputs.new) host.old host.new }
 {
     let pumped = put.then(step_inputs(rt, shared, pace, seat, host, false, inputs)?);
     if pumped != Pumped::Nothing || !may_wait {
@@ -356,6 +372,7 @@ pub(crate) fn pump<J: Naming, D: Disk, S: Sink, I: Source, R: Wait>(
     ensures begun { IfErr result CameBetween }
     ensures ends { IfErr result (NamesEnd streams.new.outputs.items (map (λ i. i.port) streams.new.inputs.items)) }
     ensures gone { result ≡ Ok Gone → streams.new.inputs ≡ streams.old.inputs }
+    ensures fed { FedFrom J.accepted (map (λ i. given_input i.port (I.input i.source)) streams.old.inputs.items) (map (λ i. given_input i.port (I.input i.source)) streams.new.inputs.items) host.old host.new }
 {
     let put = step_outputs(rt, shared, seat, host, flusher, &mut streams.outputs)?;
     if put == Pumped::Gone {

@@ -1,9 +1,10 @@
 //! What a stream does with a network and its flusher.
 
 ghost use Rattle.std.specs.Prelude.{map, ◌≡◌, ℕ, ◌≤◌, List, length, vec_len, All, Some, IfOk, IfSome, IfErr, OnOk};
-ghost use Rattle.tp_stream.specs.Lower.{list_all, OutputValue, Began, is_over};
+ghost use Rattle.tp_stream.specs.Lower.{list_all, OutputValue, Began, is_over, given_input};
 ghost use Rattle.tp_stream.specs.FailedEnds.{NamesEnd};
 ghost use Rattle.tp_stream.specs.Failures.{answer_failed};
+ghost use Rattle.tp_stream.specs.HandedFrom.{FedFrom};
 ghost use Rattle.tp_stream.specs.Looks.{HaveLooked, LooksAtMostOnce, LooksOnce};
 ghost use Rattle.tp_stream.specs.Over.{LeavesNoInput};
 ghost use Rattle.tp_stream.specs.Put.{EndsPut};
@@ -58,6 +59,7 @@ impl<J: Naming> Going<J> {
         runs: Runs,
     ) -> Going<J>
         ensures rested { HaveRested J.start result.turns.whose result.turns.idle }
+        ensures host { result.host ≡ host }
     {
         let Ground { rt, net, pace, .. } = ground;
         let has_halted = pace.task.stop_on_halt && find_halted(rt, net.shared());
@@ -86,6 +88,7 @@ fn take_awaited<J: Naming, I: Source, R: Wait>(
     ensures steps { going.new ≡ record going.old { steps = going.new.steps; host = going.new.host } }
     ensures begun { IfErr result CameBetween }
     ensures ends { (outputs : List OutputValue) → IfErr result (NamesEnd outputs (map (λ i. i.port) inputs.new)) }
+    ensures fed { FedFrom J.accepted (map (λ i. given_input i.port (I.input i.source)) inputs.old) (map (λ i. given_input i.port (I.input i.source)) inputs.new) going.old.host going.new.host }
 {
     let Ground { rt, net, pace, .. } = ground;
     match step_inputs(
@@ -113,6 +116,7 @@ fn take_or<J: Naming, I: Source, R: Wait>(
     ensures steps { going.new ≡ record going.old { steps = going.new.steps; host = going.new.host } }
     ensures begun { IfErr result CameBetween }
     ensures ends { (outputs : List OutputValue) → IfErr result (NamesEnd outputs (map (λ i. i.port) inputs.new)) }
+    ensures fed { FedFrom J.accepted (map (λ i. given_input i.port (I.input i.source)) inputs.old) (map (λ i. given_input i.port (I.input i.source)) inputs.new) going.old.host going.new.host }
 {
     match take_awaited(ground, going, inputs) {
         Ok(None) if are_over(inputs) => Ok(None),
@@ -123,6 +127,7 @@ fn take_or<J: Naming, I: Source, R: Wait>(
 
 /// Rests if the stream has something else to do meanwhile, and nothing is left to do but to wait for input. Bytes that come end the rest, and ports
 /// take them at once; they also take bytes that came before it. Answers what all steps have come to then; `None` if it rested and nothing came.
+#[tactic(auto, using(crate::proofs::HandedFrom::fed_none, crate::proofs::HandedFrom::fed_asked, crate::proofs::HandedFrom::fed_then))]
 fn rest_where_late<J: Naming, I: Source, R: Wait>(
     ground: Ground<'_, J, R>,
     going: &mut Going<J>,
@@ -133,6 +138,7 @@ fn rest_where_late<J: Naming, I: Source, R: Wait>(
     ensures steps { going.new ≡ record going.old { steps = going.new.steps; host = going.new.host } }
     ensures begun { IfErr result CameBetween }
     ensures ends { (outputs : List OutputValue) → IfErr result (NamesEnd outputs (map (λ i. i.port) inputs.new)) }
+    ensures fed { FedFrom J.accepted (map (λ i. given_input i.port (I.input i.source)) inputs.old) (map (λ i. given_input i.port (I.input i.source)) inputs.new) going.old.host going.new.host }
 {
     let Ground { rt, net, pace, .. } = ground;
     let shared = net.shared();
@@ -158,6 +164,7 @@ fn make_turns<J: Naming, R: Wait>(
     ensures rested { OnOk result (HaveRested J.start going.new.turns.whose going.new.turns.idle) }
     ensures made { MadeRound (length J.start.nodes) going.old.turns going.new.turns }
     ensures begun { IfErr result CameOfTurns }
+    ensures host { going.new.host ≡ going.old.host }
 {
     let Ground {
         rt,
@@ -183,6 +190,7 @@ fn make_turns<J: Naming, R: Wait>(
 }
 
 /// Rests if an input is late, and then makes turns, after steps that came to `pumped`. If it rested and nothing came, it makes no turns.
+#[tactic(auto, using(crate::proofs::HandedFrom::fed_none, crate::proofs::HandedFrom::fed_asked, crate::proofs::HandedFrom::fed_then))]
 fn rest_or_turn<J: Naming, I: Source, R: Wait>(
     ground: Ground<'_, J, R>,
     going: &mut Going<J>,
@@ -195,6 +203,7 @@ fn rest_or_turn<J: Naming, I: Source, R: Wait>(
     ensures made { MadeRound (length J.start.nodes) going.old.turns going.new.turns }
     ensures begun { IfErr result CameBetween }
     ensures ends { (outputs : List OutputValue) → IfErr result (NamesEnd outputs (map (λ i. i.port) inputs.new)) }
+    ensures fed { FedFrom J.accepted (map (λ i. given_input i.port (I.input i.source)) inputs.old) (map (λ i. given_input i.port (I.input i.source)) inputs.new) going.old.host going.new.host }
 {
     match rest_where_late(ground, going, inputs, pumped, over) {
         Ok(Some(pumped)) => make_turns(ground, going, pumped, over),
@@ -226,6 +235,7 @@ fn go_on<J: Naming, D: Disk, S: Sink, I: Source, P: Stop, R: Wait>(
     ensures made { MadeRound (length J.start.nodes) going.old.turns going.new.turns }
     ensures begun { IfErr result CameBetween }
     ensures ends { IfErr result (NamesEnd streams.new.outputs.items (map (λ i. i.port) streams.new.inputs.items)) }
+    ensures fed { FedFrom J.accepted (map (λ i. given_input i.port (I.input i.source)) streams.old.inputs.items) (map (λ i. given_input i.port (I.input i.source)) streams.new.inputs.items) going.old.host going.new.host }
 {
     let Ground {
         rt,
@@ -285,6 +295,7 @@ fn cycle<J: Naming, D: Disk, S: Sink, I: Source, L: Listener, P: Stop, R: Wait>(
     ensures rested { OnOk result (HaveRested J.start going.new.turns.whose going.new.turns.idle) }
     ensures made { MadeRound (length J.start.nodes) going.old.turns going.new.turns }
     ensures ends { IfErr result (NamesEnd streams.new.outputs.items (map (λ i. i.port) streams.new.inputs.items)) }
+    ensures fed { FedFrom J.accepted (map (λ i. given_input i.port (I.input i.source)) streams.old.inputs.items) (map (λ i. given_input i.port (I.input i.source)) streams.new.inputs.items) going.old.host going.new.host }
 {
     let Ground {
         rt,
@@ -320,6 +331,7 @@ fn lap<J: Naming, D: Disk, S: Sink, I: Source, L: Listener, P: Stop, R: Wait>(
     ensures told { ToldLater (length J.start.nodes) (L.told listener.old) (L.told listener.new) }
     ensures rested { OnOk result (HaveRested J.start going.new.turns.whose going.new.turns.idle) }
     ensures ends { IfErr result (NamesEnd streams.new.outputs.items (map (λ i. i.port) streams.new.inputs.items)) }
+    ensures fed { FedFrom J.accepted (map (λ i. given_input i.port (I.input i.source)) streams.old.inputs.items) (map (λ i. given_input i.port (I.input i.source)) streams.new.inputs.items) going.old.host going.new.host }
 {
     let Ground { rt, pace, .. } = ground;
     let done = cycle(ground, going, flusher, streams, listener, stop);
@@ -356,6 +368,7 @@ pub(crate) fn laps<J: Naming, D: Disk, S: Sink, I: Source, L: Listener, P: Stop,
     ensures told { ToldLater (length J.start.nodes) (L.told listener.old) (L.told listener.new) }
     ensures looks { IfOk result (HaveLooked ground.entry.pace.task (P.answers stop.old) (P.answers stop.new)) }
     ensures ends { IfErr result (NamesEnd streams.new.outputs.items (map (λ i. i.port) streams.new.inputs.items)) }
+    ensures fed { FedFrom J.accepted (map (λ i. given_input i.port (I.input i.source)) streams.old.inputs.items) (map (λ i. given_input i.port (I.input i.source)) streams.new.inputs.items) going.old.host going.new.host }
 {
     flusher.known();
     let mut last = Ok(None);
@@ -369,7 +382,7 @@ pub(crate) fn laps<J: Naming, D: Disk, S: Sink, I: Source, L: Listener, P: Stop,
 }
 
 /// Makes turns and steps until the stream is over, with a worker at each seat. Answers the number that the next entry gets, and why it is over; all
-/// entries below that number are stored. Before that it tells the listener which nodes have stopped.
+/// entries below that number are stored. Before that it tells the listener which nodes have stopped. However it ends, it gives back the host's key.
 #[inline(never)]
 pub(crate) fn serve<
     J: Naming + Send + Sync,
@@ -387,37 +400,39 @@ pub(crate) fn serve<
     streams: &mut Streams<S, I>,
     listener: &mut L,
     stop: &mut P,
-) -> Result<Ended, StreamFault>
+) -> (Result<Ended, StreamFault>, HostKey<J>)
     requires rested { HaveRested J.start going.turns.whose going.turns.idle }
     requires seats { All (λ seat. seat.hand.of ≡ Some ground.net.now.queue) seats.items }
     requires team { (ground.pace.workers ≡ team_of ground.pace.task.workers (length J.start.nodes)) × (vec_len seats ≡ ground.pace.workers) }
-    ensures served { ServedOn D.keeps J.formatted J.before (answer_failed result) flusher.old flusher.new streams.old.outputs.items streams.new.outputs.items }
-    ensures why { IfOk result (λ ended. IsWhyEnded J.start ground.entry.pace.task ended.why) }
-    ensures inputs { IfOk result (λ ended. LeavesNoInput (list_all (λ i. is_over i.ended i.is_blocked) streams.new.inputs.items) ended.why) }
+    ensures served { ServedOn D.keeps J.formatted J.before (answer_failed result.0) flusher.old flusher.new streams.old.outputs.items streams.new.outputs.items }
+    ensures why { IfOk result.0 (λ ended. IsWhyEnded J.start ground.entry.pace.task ended.why) }
+    ensures inputs { IfOk result.0 (λ ended. LeavesNoInput (list_all (λ i. is_over i.ended i.is_blocked) streams.new.inputs.items) ended.why) }
     ensures told { ToldLater (length J.start.nodes) (L.told listener.old) (L.told listener.new) }
-    ensures looks { IfOk result (λ ended. HaveLooked ground.entry.pace.task (P.answers stop.old) (P.answers stop.new) (Some ended.why)) }
-    ensures stored { IfOk result (λ ended. ended.next ≤ flusher.new.world.mark) }
-    ensures last { D.keeps → Began J.formatted J.before flusher.old.opened → IfOk result (λ ended. ended.next ≡ length flusher.new.world.journal) }
+    ensures looks { IfOk result.0 (λ ended. HaveLooked ground.entry.pace.task (P.answers stop.old) (P.answers stop.new) (Some ended.why)) }
+    ensures stored { IfOk result.0 (λ ended. ended.next ≤ flusher.new.world.mark) }
+    ensures last { D.keeps → Began J.formatted J.before flusher.old.opened → IfOk result.0 (λ ended. ended.next ≡ length flusher.new.world.journal) }
     ensures put { D.keeps → Began J.formatted J.before flusher.old.opened
-        → IfOk result (λ ended. EndsPut J.formatted flusher.new.world.journal ended.why streams.new.outputs.items) }
-    ensures begun { IfErr result CameBegun }
-    ensures ends { IfErr result (NamesEnd streams.new.outputs.items (map (λ i. i.port) streams.new.inputs.items)) }
+        → IfOk result.0 (λ ended. EndsPut J.formatted flusher.new.world.journal ended.why streams.new.outputs.items) }
+    ensures begun { IfErr result.0 CameBegun }
+    ensures ends { IfErr result.0 (NamesEnd streams.new.outputs.items (map (λ i. i.port) streams.new.inputs.items)) }
+    ensures fed { FedFrom J.accepted (map (λ i. given_input i.port (I.input i.source)) streams.old.inputs.items) (map (λ i. given_input i.port (I.input i.source)) streams.new.inputs.items) going.host result.1 }
 {
     let Ground { rt, alloc, net, .. } = ground;
     let shared = net.shared();
     let (going, last) = lead(ground, seats, going, flusher, streams, listener, stop);
-    let rests = going.turns.is_quiet(shared.nodes());
+    let Going { turns, host, .. } = going;
+    let rests = turns.is_quiet(shared.nodes());
     let why = match last {
         Ok(Some(why)) => why,
         // The laps go on as long as the answer is `Ok(None)`.
-        Ok(None) => return Err(StreamFault::NotStored),
-        Err(fault) => return Err(fault),
+        Ok(None) => return (Err(StreamFault::NotStored), host),
+        Err(fault) => return (Err(fault), host),
     };
     match finish(rt, alloc, shared, flusher, why, &streams.outputs) {
         Ok(next) => {
             tell_stopped(rt, shared, why, rests, listener);
-            Ok(Ended { next, why })
+            (Ok(Ended { next, why }), host)
         }
-        Err(fault) => Err(fault),
+        Err(fault) => (Err(fault), host),
     }
 }

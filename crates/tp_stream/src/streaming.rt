@@ -115,7 +115,7 @@ fn stream_parts<
     requires synced { D.keeps → IsSynced (D.state device.store.disk) }
     ensures size { D.size_of result.0 ≡ D.size_of device.store.disk }
     ensures streamed { D.keeps → Began J.formatted J.before (D.state device.store.disk).now.bytes
-        → ServedInto J.formatted (next_of device.opened.value) result.1 streams.old.outputs.items streams.new.outputs.items (D.state device.store.disk) (D.state result.0) }
+        → ServedInto J.formatted (next_of device.opened.value) (map (λ i. given_input i.port (I.input i.source)) streams.old.inputs.items) (accepted_opened device.opened.value) result.1 streams.old.outputs.items streams.new.outputs.items (D.state device.store.disk) (D.state result.0) }
     ensures why { IfOk result.1 (λ ended. IsAsked task ended.why) }
     ensures looks { IfOk result.1 (λ ended. HaveLooked task (P.answers stop.old) (P.answers stop.new) (Some ended.why)) }
     ensures over { IfOk result.1 (λ ended. LeavesNoInput (list_all (λ i. is_over i.ended i.is_blocked) streams.new.inputs.items) ended.why) }
@@ -154,7 +154,8 @@ fn stream_parts<
         pace,
     };
     let going = Going::new(ground, seat, steps, host, runs);
-    let done = serve(ground, seats, going, &mut flusher, streams, listener, stop);
+    let (done, mut host) = serve(ground, seats, going, &mut flusher, streams, listener, stop);
+    flusher.settle_host_under(rt, net.shared(), &mut host);
     (flusher.into_disk(), done)
 }
 
@@ -165,6 +166,9 @@ fn stream_parts<
 /// A crash at any moment of the call leaves one of two things. Either a crash just before the call might have left it, too; or it opens to the
 /// network that a prefix of the journal leads to. That prefix has all that the device had. After a finished stream the prefix has each entry below
 /// the answered number, and the journal has no others.
+///
+/// However the stream ends, each byte that its entries hand to a port is the one that an input of the port has at that position: none comes twice, and
+/// none is left out.
 ///
 /// However the stream ends, what a sink got are outputs of its port, and whatever a crash leaves from then on has the entries that lead to them. If
 /// the stream ended as quiet, or since all turns were made, they are all that the port has put out, and all are confirmed. `Output` says that, at
@@ -196,7 +200,7 @@ pub fn stream<
     ensures streamed { D.keeps → Began history.formatted history.before (D.state disk).now.bytes
         → Streamed history.formatted result.1 (D.state disk) (D.state result.0) }
     ensures put { D.keeps → Began history.formatted history.before (D.state disk).now.bytes
-        → StreamedInto history.formatted result.1 streams.old.outputs.items streams.new.outputs.items (D.state disk) (D.state result.0) }
+        → StreamedInto history.formatted (map (λ i. given_input i.port (I.input i.source)) streams.old.inputs.items) result.1 streams.old.outputs.items streams.new.outputs.items (D.state disk) (D.state result.0) }
     ensures unwritten { D.keeps → StaysUnstreamed result.1 → LeavesNothingNew (D.state disk) (D.state result.0) }
     ensures unopened { D.keeps → IsErr (verdict (D.state disk).now.bytes) → (unopened : Unopened) × (result.1 ≡ Err (StreamFault.Opening unopened)) }
     ensures answer { D.keeps → StreamAnswer (verdict (D.state disk).now.bytes) result.1 }

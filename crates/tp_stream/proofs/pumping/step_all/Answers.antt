@@ -10,7 +10,7 @@ use Rattle.tp_stream.proofs.Puts.{all_left, each_any, each_more, left_nothing, l
 use Rattle.tp_stream.proofs.pumping.step_all.Goals as goal
 
 pub loop-output-init : goal.loop-output-init
-loop-output-init g c = record { left = all_left c.args.held.now.book; puts = refl; many = refl; room = λ journal L there. (L, let none : length c.args.outputs.now ≡ length c.args.outputs.now - 0 = omega arith in subst (λ n. has_room_for journal c.args.held.now.book n ≡ true) none there) }
+loop-output-init g c = record { left = all_left c.args.held.now.book; puts = refl; many = refl; unfed = λ p. refl; room = λ journal L there. (L, let none : length c.args.outputs.now ≡ length c.args.outputs.now - 0 = omega arith in subst (λ n. has_room_for journal c.args.held.now.book n ≡ true) none there) }
 
 pub loop-output-preserved : goal.loop-output-preserved
 loop-output-preserved g c =
@@ -25,6 +25,7 @@ loop-output-preserved g c =
           each_more (PutsLeft b mark) c.loop-output.output-index c.args.outputs.now c.loop-output.outputs c.output-item.result c.step_output.new.output within I.puts
           (puts_left b c.loop-output.held.book mark _ c.step_output.new.output I.left E.puts);
       many = length-set c.loop-output.outputs c.loop-output.output-index c.step_output.new.output ∙ I.many;
+      unfed = λ p. E.unfed p ∙ I.unfed p;
       room = λ journal L there.
           let many = I.many in
           let R = I.room journal L there in
@@ -67,3 +68,6 @@ returns-in_err-step_output-clause-ends g c inputs =
     let is : c.from_residual.result ≡ Err fault = search rules in
     if_err c.from_residual.result fault _ is
     (names_output c.loop-output.outputs c.loop-output.output-index c.step_output.new.output inputs fault within c.in_err-step_output.ensures.names)
+
+pub returns-in_err-step_output-clause-unfed : goal.returns-in_err-step_output-clause-unfed
+returns-in_err-step_output-clause-unfed g c p = c.step_output.ensures.unfed p ∙ c.loop-output.invariant.unfed p

@@ -1,9 +1,10 @@
-use Rattle.std.proofs.Common.{rules, ◌≡◌, Err, length, refl, sym, subst}
-use Rattle.tp_stream.proofs.Lower.{Began, Flushing, walked_nowhere}
+use Rattle.std.proofs.Common.{rules, map, ◌≡◌, Err, length, refl, sym, subst}
+use Rattle.tp_stream.proofs.Lower.{Began, Flushing, walked_nowhere, given_input}
 use Rattle.tp_stream.specs.Failures.{answer_failed, fault_failed}
 use Rattle.tp_stream.specs.Served.{ServedOn}
 use Rattle.tp_stream.proofs.FailedEnds.{flush_names_none, names_none}
 use Rattle.tp_stream.proofs.Failures.{between_begun, between_unfailed, failed_still, flush_begun, if_err}
+use Rattle.tp_stream.proofs.HandedFrom.{fed_none}
 use Rattle.tp_stream.proofs.Notices.{later_none, later_progress}
 use Rattle.tp_stream.proofs.Served.{fault_answered, served_still}
 use Rattle.tp_stream.proofs.Stepping.{all_since}
@@ -66,3 +67,6 @@ returns-in_err-flush-clause-ends g c =
     let fault = c.in_err-flush.field-0.0 in
     let is : c.from_residual.result ≡ Err fault = search rules in
     if_err c.from_residual.result fault _ is (names_none _ _ fault (flush_names_none fault c.in_err-flush.ensures.begun))
+
+pub returns-in_err-flush-clause-fed : goal.returns-in_err-flush-clause-fed
+returns-in_err-flush-clause-fed g c = fed_none g.J.Naming.accepted (map (λ i. given_input i.port (g.I.Source.input i.source)) c.args.streams.now.inputs.items) c.args.going.now.host

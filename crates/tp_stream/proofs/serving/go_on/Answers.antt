@@ -1,8 +1,9 @@
-use Rattle.std.proofs.Common.{rules, length, drop, arith, ◌≡◌, Err, ap, ◌∙◌}
-use Rattle.tp_stream.proofs.Lower.{list_all, is_over}
+use Rattle.std.proofs.Common.{rules, map, length, drop, arith, ◌≡◌, Err, ap, ◌∙◌}
+use Rattle.tp_stream.proofs.Lower.{list_all, is_over, given_input}
 use Rattle.tp_stream.specs.Streamed.{CameBetween}
 use Rattle.tp_stream.proofs.FailedEnds.{names_none, turns_between, turns_name_none, with_inputs}
 use Rattle.tp_stream.proofs.Failures.{if_err}
+use Rattle.tp_stream.proofs.HandedFrom.{fed_back, fed_none, fed_then}
 use Rattle.tp_stream.proofs.Quiets.{ended_why, leaves_no_input}
 use Rattle.tp_stream.proofs.serving.go_on.Goals as goal
 
@@ -39,3 +40,27 @@ returns-in_err-rest_or_turn-clause-ends g c =
     let many : length inputs ≡ c.pump.new.streams.inputs.len = omega (arith, c.rest_or_turn.auto.inputs, c.deref_mut.ensures.len) in
     with_inputs (λ i. i.port) c.from_residual-in_err-rest_or_turn.result c.pump.new.streams.inputs.len outputs inputs (drop (length inputs) c.pump.new.streams.inputs.items) many
     (if_err c.from_residual-in_err-rest_or_turn.result fault _ is (c.in_err-rest_or_turn.ensures.ends outputs))
+
+-- ## What was handed in
+
+pub returns-in_err-settle-clause-fed : goal.returns-in_err-settle-clause-fed
+returns-in_err-settle-clause-fed g c = fed_none g.J.Naming.accepted (map (λ i. given_input i.port (g.I.Source.input i.source)) c.args.streams.now.inputs.items) c.args.going.now.host
+
+pub returns-then-may_settle-clause-fed : goal.returns-then-may_settle-clause-fed
+returns-then-may_settle-clause-fed g c = fed_none g.J.Naming.accepted (map (λ i. given_input i.port (g.I.Source.input i.source)) c.args.streams.now.inputs.items) c.args.going.now.host
+
+pub returns-in_err-rest_or_turn-clause-fed : goal.returns-in_err-rest_or_turn-clause-fed
+returns-in_err-rest_or_turn-clause-fed g c =
+    let was = c.pump.new.streams.inputs in
+    let inputs = c.rest_or_turn.new.inputs in
+    let many : length inputs ≡ was.len = omega (arith, c.rest_or_turn.auto.inputs, c.deref_mut.ensures.len) in
+    fed_then g.J.Naming.accepted _ _ _ _ _ _ c.pump.ensures.fed
+    (fed_back (λ i. given_input i.port (g.I.Source.input i.source)) g.J.Naming.accepted was.items c.deref_mut.result.now inputs was.len _ _ many c.deref_mut.ensures.value c.rest_or_turn.ensures.fed)
+
+pub returns-clause-fed : goal.returns-clause-fed
+returns-clause-fed g c =
+    let was = c.pump.new.streams.inputs in
+    let inputs = c.rest_or_turn.new.inputs in
+    let many : length inputs ≡ was.len = omega (arith, c.rest_or_turn.auto.inputs, c.deref_mut.ensures.len) in
+    fed_then g.J.Naming.accepted _ _ _ _ _ _ c.pump.ensures.fed
+    (fed_back (λ i. given_input i.port (g.I.Source.input i.source)) g.J.Naming.accepted was.items c.deref_mut.result.now inputs was.len _ _ many c.deref_mut.ensures.value c.rest_or_turn.ensures.fed)

@@ -1,8 +1,9 @@
-use Rattle.std.proofs.Common.{◌≡◌, false, Ok, None, length, refl, ap, subst, ◌∙◌}
-use Rattle.tp_flush.proofs.Turns.{walked_nowhere}
+use Rattle.std.proofs.Common.{◌≡◌, map, false, Ok, None, length, refl, ap, subst, ◌∙◌}
+use Rattle.tp_stream.proofs.Lower.{walked_nowhere, given_input}
 use Rattle.tp_stream.specs.Failures.{answer_failed}
 use Rattle.tp_stream.specs.Served.{ServedOn}
 use Rattle.tp_stream.proofs.Failures.{none_failed}
+use Rattle.tp_stream.proofs.HandedFrom.{fed_none, fed_then}
 use Rattle.tp_stream.proofs.Looks.{looks_then, none_looked}
 use Rattle.tp_stream.proofs.Notices.{later_none, later_then}
 use Rattle.tp_stream.proofs.Served.{served_still, served_then}
@@ -17,6 +18,7 @@ loop-init g c = record {
   answer = record { why = tt; inputs = tt; begun = tt };
   told = later_none (length g.J.Naming.start.nodes) (g.L.Listener.told c.args.listener.now);
   ends = tt;
+  fed = fed_none g.J.Naming.accepted (map (λ i. given_input i.port (g.I.Source.input i.source)) c.args.streams.now.inputs.items) c.args.going.now.host;
   looks = none_looked c.args.ground.pace.task (g.P.Stop.answers c.args.stop.now);
   queue = c.requires.queue;
   rested = c.requires.rested;
@@ -41,6 +43,7 @@ loop-preserved g c =
           (g.P.Stop.answers c.loop.stop) (g.P.Stop.answers c.lap-last.new.stop) c.loop.last c.lap-last.result going c.loop.invariant.looks c.lap-last.ensures.answer.why
           c.lap-last.ensures.looks;
       ends = c.lap-last.ensures.ends;
+      fed = fed_then g.J.Naming.accepted _ _ _ _ _ _ c.loop.invariant.fed c.lap-last.ensures.fed;
       queue = c.lap-last.ensures.queue;
       rested = c.lap-last.ensures.rested;
     }

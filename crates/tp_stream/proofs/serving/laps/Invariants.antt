@@ -1,8 +1,9 @@
 use Rattle.std.proofs.Common.{map, ◌≡◌, Some, length}
 use Rattle.std.specs.Prelude.{IfErr, IfOk, IfSome, OnOk}
-use Rattle.tp_stream.proofs.Lower.{list_all, is_over}
+use Rattle.tp_stream.proofs.Lower.{list_all, is_over, given_input}
 use Rattle.tp_stream.specs.FailedEnds.{NamesEnd}
 use Rattle.tp_stream.specs.Failures.{answer_failed}
+use Rattle.tp_stream.specs.HandedFrom.{FedFrom}
 use Rattle.tp_stream.specs.Looks.{HaveLooked}
 use Rattle.tp_stream.specs.Quiet.{HaveRested}
 use Rattle.tp_stream.specs.Served.{ServedAnswer, ServedOn}
@@ -17,6 +18,7 @@ invariant-loop g l = record {
   told : ToldLater (length g.J.Naming.start.nodes) (g.L.Listener.told l.fn.listener) (g.L.Listener.told l.listener);
   looks : IfOk l.last (HaveLooked l.ground.pace.task (g.P.Stop.answers l.fn.stop) (g.P.Stop.answers l.stop));
   ends : IfErr l.last (NamesEnd l.streams.outputs.items (map (λ i. i.port) l.streams.inputs.items));
+  fed : FedFrom g.J.Naming.accepted (map (λ i. given_input i.port (g.I.Source.input i.source)) l.fn.streams.inputs.items) (map (λ i. given_input i.port (g.I.Source.input i.source)) l.streams.inputs.items) l.fn.going.host l.going.host;
   queue : IfSome l.seat (λ seat. seat.hand.of ≡ Some l.ground.net.now.queue);
   rested : OnOk l.last (HaveRested g.J.Naming.start l.going.turns.whose l.going.turns.idle);
 }

@@ -39,19 +39,20 @@ returns-in-Err-parts_of-clause-streamed g c k began =
 pub returns-in-Err-clause-put : goal.returns-in-Err-clause-put
 returns-in-Err-clause-put g c k began =
     let outputs = c.args.streams.now.outputs.items in
-    unput g.history.formatted (Opening c.in-Err.unopened) outputs outputs (g.D.Disk.state c.args.disk) (g.D.Disk.state c.open.new.disk) (c.open.ensures.leaves k) refl
+    unput g.history.formatted _ (Opening c.in-Err.unopened) outputs outputs (g.D.Disk.state c.args.disk) (g.D.Disk.state c.open.new.disk) (c.open.ensures.leaves k) refl
 
 pub returns-in-Some-clause-put : goal.returns-in-Some-clause-put
 returns-in-Some-clause-put g c k began =
     let outputs = c.args.streams.now.outputs.items in
-    unput g.history.formatted c.in-Some.fault outputs outputs (g.D.Disk.state c.args.disk) (g.D.Disk.state c.open.new.disk) (c.open.ensures.leaves k) refl
+    unput g.history.formatted _ c.in-Some.fault outputs outputs (g.D.Disk.state c.args.disk) (g.D.Disk.state c.open.new.disk) (c.open.ensures.leaves k) refl
 
 pub returns-in-Err-parts_of-clause-put : goal.returns-in-Err-parts_of-clause-put
 returns-in-Err-parts_of-clause-put g c k began =
     let was = c.args.streams.now.outputs.items in
     let now = c.parts_of.new.streams.outputs.items in
-    subst (λ d. StreamedInto g.history.formatted (Err c.in-Err-parts_of.fault) was now (g.D.Disk.state c.args.disk) (g.D.Disk.state d)) (sym (c.into_disk.ensures ∙ c.store-store.ensures.disk))
-    (unput g.history.formatted c.in-Err-parts_of.fault was now (g.D.Disk.state c.args.disk) (g.D.Disk.state c.open.new.disk) (c.open.ensures.leaves k) c.in-Err-parts_of.ensures.untouched)
+    let inputs = map (λ i. given_input i.port (g.I.Source.input i.source)) c.args.streams.now.inputs.items in
+    subst (λ d. StreamedInto g.history.formatted inputs (Err c.in-Err-parts_of.fault) was now (g.D.Disk.state c.args.disk) (g.D.Disk.state d)) (sym (c.into_disk.ensures ∙ c.store-store.ensures.disk))
+    (unput g.history.formatted inputs c.in-Err-parts_of.fault was now (g.D.Disk.state c.args.disk) (g.D.Disk.state c.open.new.disk) (c.open.ensures.leaves k) c.in-Err-parts_of.ensures.untouched)
 
 pub returns-clause-put : goal.returns-clause-put
 returns-clause-put g c k began =
@@ -62,11 +63,15 @@ returns-clause-put g c k began =
     let now = c.stream_parts.new.streams.outputs.items in
     let kept : (g.D.Disk.state c.open.new.disk).now.bytes ≡ (g.D.Disk.state c.args.disk).now.bytes = ap (λ (m : Moment). m.bytes) (c.in-Ok.ensures.kept k) in
     let same : (g.D.Disk.state c.store-store.result.disk).now.bytes ≡ (g.D.Disk.state c.args.disk).now.bytes = ap (λ d. (g.D.Disk.state d).now.bytes) c.store-store.ensures.disk ∙ kept in
-    into start done c.in-Ok.opened was set now (g.D.Disk.state c.args.disk) (g.D.Disk.state c.open.new.disk) (g.D.Disk.state c.stream_parts.result.0) (c.open.ensures.leaves k) kept
+    let o = c.in-Ok.opened in
+    let inputs = map (λ i. given_input i.port (g.I.Source.input i.source)) c.args.streams.now.inputs.items in
+    let unread = map (λ i. given_input i.port (g.I.Source.input i.source)) c.parts_of.new.streams.inputs.items in
+    into start inputs done o was set now (g.D.Disk.state c.args.disk) (g.D.Disk.state c.open.new.disk) (g.D.Disk.state c.stream_parts.result.0) (c.open.ensures.leaves k) kept
     (c.in-Ok.ensures.is k) c.in-Ok-parts_of.ensures.set
-    (subst (λ d. ServedInto start (next_of c.in-Ok.opened) done set now (g.D.Disk.state d) (g.D.Disk.state c.stream_parts.result.0)) c.store-store.ensures.disk
-    (subst (λ o. ServedInto start (next_of o) done set now (g.D.Disk.state c.store-store.result.disk) (g.D.Disk.state c.stream_parts.result.0)) (c.of-known.ensures)
-    (c.stream_parts.ensures.streamed k (subst (Began start g.history.before) (sym same) began))))
+    (subst (λ d. ServedInto start (next_of o) inputs (accepted_opened o) done set now (g.D.Disk.state d) (g.D.Disk.state c.stream_parts.result.0)) c.store-store.ensures.disk
+    (subst (λ is. ServedInto start (next_of o) is (accepted_opened o) done set now (g.D.Disk.state c.store-store.result.disk) (g.D.Disk.state c.stream_parts.result.0)) c.in-Ok-parts_of.ensures.unread
+    (subst (λ x. ServedInto start (next_of x) unread (accepted_opened x) done set now (g.D.Disk.state c.store-store.result.disk) (g.D.Disk.state c.stream_parts.result.0)) (c.of-known.ensures)
+    (c.stream_parts.ensures.streamed k (subst (Began start g.history.before) (sym same) began)))))
 
 pub returns-clause-streamed : goal.returns-clause-streamed
 returns-clause-streamed g c k began = (returns-clause-put g c k began).streamed

@@ -1,19 +1,22 @@
-use Rattle.std.proofs.Common.{◌≡◌, Ok, Err, Some, false, refl, sym, ap, subst, ◌∙◌}
+use Rattle.std.proofs.Common.{◌≡◌, map, drop, Ok, Err, Some, false, refl, sym, ap, subst, ◌∙◌}
 use Rattle.std.specs.Prelude.{IfOk}
-use Rattle.tp_stream.proofs.Lower.{NodeState, State, held_of, next_of, verdict, World, reopened, node_count, Began}
+use Rattle.tp_stream.proofs.Lower.{NodeState, State, held_of, next_of, verdict, World, reopened, node_count, Began, Flushing, given_input}
 use Rattle.tp_stream.specs.Failures.{answer_failed, calls_failed}
 use Rattle.tp_stream.specs.Looks.{HaveLooked}
 use Rattle.tp_stream.specs.Put.{ServedInto}
 use Rattle.tp_stream.specs.Quiet.{IsWhyEnded, LeavesNothingToDo}
+use Rattle.tp_stream.specs.HandedFrom.{AreHandedFrom}
+use Rattle.tp_stream.specs.Standing.{accepted_opened}
 use Rattle.tp_stream.specs.Teams.{team_of}
 use Rattle.tp_stream.specs.Told.{ToldLater}
 use Rattle.tp_stream.specs.declared.task.Task.{Task}
 use Rattle.tp_stream.proofs.Quiets.{all_asked, all_left}
 use Rattle.tp_stream.specs.declared.fault.StreamFault.TheVariants.{Memory}
 use Rattle.tp_stream.proofs.Failures.{uncounted}
+use Rattle.tp_stream.proofs.HandedFrom.{front_from, handed_as, handed_none}
 use Rattle.tp_stream.proofs.Notices.{later_none}
 use Rattle.tp_stream.proofs.Runs.{served, unserved}
-use Rattle.tp_stream.proofs.Started.{nodes_of, ports_of, wires_of}
+use Rattle.tp_stream.proofs.Started.{accepted_made, nodes_of, ports_of, wires_of}
 use Rattle.tp_stream.proofs.streaming.stream_parts.Goals as goal
 
 pub returns-clause-streamed : goal.returns-clause-streamed
@@ -23,7 +26,7 @@ returns-clause-streamed g c k began =
     let o = c.args.device.opened.value in
     let old = c.over-flusher.result in
     let new = c.serve-done.new.flusher in
-    let done = c.serve-done.result in
+    let done = c.serve-done.result.0 in
     let device = sym c.over-flusher.ensures.device.0 in
     let first : Began start before old.opened = subst (Began start before) (sym c.over-flusher.ensures.opened) began in
     let there : Began start before old.state.now.bytes = subst (λ (s : State). Began start before s.now.bytes) device began in
@@ -32,20 +35,29 @@ returns-clause-streamed g c k began =
     let was = c.args.streams.now.outputs.items in
     let now = c.serve-done.new.streams.outputs.items in
     let S = c.serve-done.ensures in
-    subst (λ s. ServedInto start (next_of o) done was now (g.D.Disk.state c.args.device.store.disk) s) (sym c.into_disk-2.ensures.state)
-    (subst (λ s. ServedInto start (next_of o) done was now s new.state) c.over-flusher.ensures.device.0
-    (served start before o old new done there reads world (c.known.ensures.reached k first) (S.served.walks k first) S.stored (S.last k first) was now (S.served.put k first) (S.put k first)))
+    let inputs = map (λ i. given_input i.port (g.I.Source.input i.source)) c.args.streams.now.inputs.items in
+    let later : Began start before new.opened = subst (Began start before) (sym S.served.process.opened) first in
+    let none : AreHandedFrom inputs g.J.Naming.accepted c.new-going.result.host =
+    subst (AreHandedFrom inputs g.J.Naming.accepted) (sym (c.new-going.ensures.host ∙ c.in-Ok.ensures.host)) (handed_none inputs g.J.Naming.accepted) in
+    let fed : AreHandedFrom inputs g.J.Naming.accepted (drop g.J.Naming.first new.world.journal) =
+    front_from inputs g.J.Naming.accepted c.serve-done.result.1 (drop g.J.Naming.first new.world.journal) (c.settle_host_under.ensures.handed k later) (S.fed.fed none) in
+    let state = c.into_disk-2.ensures.state ∙ ap (λ (f : Flushing). f.state) c.settle_host_under.ensures.same.0 in
+    subst (λ s. ServedInto start (next_of o) inputs (accepted_opened o) done was now (g.D.Disk.state c.args.device.store.disk) s) (sym state)
+    (subst (λ s. ServedInto start (next_of o) inputs (accepted_opened o) done was now s new.state) c.over-flusher.ensures.device.0
+    (served start before o old new done there reads world (c.known.ensures.reached k first) (S.served.walks k first) S.stored (S.last k first) was now (S.served.put k first) (S.put k first) inputs (accepted_opened o)
+    (handed_as inputs g.J.Naming.accepted (accepted_opened o) (drop (next_of o) new.world.journal) (λ p. sym (c.requires.names.accepted_is p) ∙ accepted_made o c.args.device.parts.book p c.requires.stands.book)
+    (subst (λ n. AreHandedFrom inputs g.J.Naming.accepted (drop n new.world.journal)) (sym c.requires.names.first_is ∙ c.requires.stands.first) fed))))
 
 pub returns-clause-why : goal.returns-clause-why
 returns-clause-why g c =
-    all_asked g.J.Naming.start c.args.task c.serve-done.result
-    (subst (λ task. IfOk c.serve-done.result (λ ended. IsWhyEnded g.J.Naming.start task ended.why)) c.pace_of-pace.ensures.task c.serve-done.ensures.why)
+    all_asked g.J.Naming.start c.args.task c.serve-done.result.0
+    (subst (λ task. IfOk c.serve-done.result.0 (λ ended. IsWhyEnded g.J.Naming.start task ended.why)) c.pace_of-pace.ensures.task c.serve-done.ensures.why)
 
 pub returns-clause-looks : goal.returns-clause-looks
 returns-clause-looks g c =
     let old = g.P.Stop.answers c.args.stop.now in
     let new = g.P.Stop.answers c.serve-done.new.stop in
-    subst (λ task. IfOk c.serve-done.result (λ ended. HaveLooked task old new (Some ended.why))) c.pace_of-pace.ensures.task c.serve-done.ensures.looks
+    subst (λ task. IfOk c.serve-done.result.0 (λ ended. HaveLooked task old new (Some ended.why))) c.pace_of-pace.ensures.task c.serve-done.ensures.looks
 
 pub returns-clause-told : goal.returns-clause-told
 returns-clause-told g c =
@@ -58,16 +70,16 @@ returns-clause-quiet g c =
     let b = c.args.device.parts.book in
     let start = g.J.Naming.start in
     let N = c.requires.names in
-    let done = c.serve-done.result in
+    let done = c.serve-done.result.0 in
     subst (λ t. IfOk done (λ ended. LeavesNothingToDo t ended.why)) (sym c.requires.topology)
     (all_left start o.head.topology c.pace_of-pace.result.task done (nodes_of o b start c.requires.stands.book c.requires.cut N.count_is)
     (ports_of o b start c.requires.stands.ports N.ports_are) (wires_of o b start c.requires.stands.book c.requires.cut N.wires_are) c.serve-done.ensures.why)
 
 pub returns-clause-failures : goal.returns-clause-failures
 returns-clause-failures g c =
-    let done = c.serve-done.result in
+    let done = c.serve-done.result.0 in
     let F = c.serve-done.ensures.served.failures (ap (λ (w : World NodeState). w.at) c.over-flusher.ensures.world) in
-    c.into_disk-2.ensures.failures ∙ F.calls ∙ ap (λ n. calls_failed (answer_failed done) n) c.over-flusher.ensures.device.2
+    c.into_disk-2.ensures.failures ∙ ap (λ (f : Flushing). f.failures) c.settle_host_under.ensures.same.0 ∙ F.calls ∙ ap (λ n. calls_failed (answer_failed done) n) c.over-flusher.ensures.device.2
 
 pub serve-done-requires-clause-seats : goal.serve-done-requires-clause-seats
 serve-done-requires-clause-seats g c κs within k d there =
@@ -84,8 +96,10 @@ serve-done-requires-clause-team g c κs within =
 pub returns-in_default-clause-streamed : goal.returns-in_default-clause-streamed
 returns-in_default-clause-streamed g c k began =
     let outputs = c.args.streams.now.outputs.items in
-    subst (λ d. ServedInto g.J.Naming.formatted (next_of c.args.device.opened.value) (Err Memory) outputs outputs (g.D.Disk.state c.args.device.store.disk) (g.D.Disk.state d)) (sym c.into_disk.ensures)
-    (unserved g.J.Naming.formatted (next_of c.args.device.opened.value) Memory outputs (g.D.Disk.state c.args.device.store.disk))
+    let o = c.args.device.opened.value in
+    let inputs = map (λ i. given_input i.port (g.I.Source.input i.source)) c.args.streams.now.inputs.items in
+    subst (λ d. ServedInto g.J.Naming.formatted (next_of o) inputs (accepted_opened o) (Err Memory) outputs outputs (g.D.Disk.state c.args.device.store.disk) (g.D.Disk.state d)) (sym c.into_disk.ensures)
+    (unserved g.J.Naming.formatted (next_of o) inputs (accepted_opened o) Memory outputs (g.D.Disk.state c.args.device.store.disk))
 
 pub returns-in_default-clause-told : goal.returns-in_default-clause-told
 returns-in_default-clause-told g c = later_none (node_count c.args.device.topology) (g.L.Listener.told c.args.listener.now)
