@@ -1,7 +1,7 @@
--- Ports of a device that was formatted have put out nothing.
-use Rattle.std.proofs.Common.{◌≡◌, ℕ, zero, suc, ◌+◌, true, List, [], ◌∷◌, length, drop, Some, Ok, subst, arith}
+-- Ports of a device that was formatted have put out nothing, and nothing has arrived from them.
+use Rattle.std.proofs.Common.{◌≡◌, ℕ, zero, suc, ◌+◌, true, inl, inr, List, [], ◌∷◌, length, drop, Some, Ok, ap, subst, ◌∙◌, arith}
 use Rattle.std.specs.Prelude.{◌&&◌, nat_le, slice_get}
-use Rattle.tp_law_processes.proofs.Lower.{AllByRecursion, and_parts, leb-true, nil_from_length, MAX_HELD, NodeState, t414, t414_ends, Machine, Network, Port, EndsSeen, Topology, line_count, Held, is_port_of, lines_in, nodes_in, ports_in, area_start, content_of, device_areas, flights_in, Opened, base_of, cut_in, lines_place, network_of, nodes_place, opening, ports_place, verdict, World, BeginsFormatted, area_parts, bind_ok, held_opened, reads_of, ports_read}
+use Rattle.tp_law_processes.proofs.Lower.{AllByRecursion, and_parts, leb-true, get_or_past, nil_from_length, get_or_from_slice_get, slice_get_cases, MAX_HELD, NodeState, t414, t414_ends, Machine, Network, Port, EndsSeen, Topology, line_count, Held, is_port_of, lines_in, nodes_in, ports_in, area_start, content_of, device_areas, flights_in, Opened, base_of, cut_in, lines_place, network_of, nodes_place, opening, ports_place, verdict, World, BeginsFormatted, area_parts, bind_ok, held_opened, reads_of, ports_read, fresh_value, port_or_fresh}
 
 -- ports of a cut with this many entries in it
 abbrev ArePortsOf : ℕ → Network NodeState → Type 0
@@ -33,12 +33,18 @@ formatted_ports start w F =
 
 -- ## One of them
 
-port_empty : (port : Port) → is_port_of 0 port ≡ true → (port.out_base ≡ 0) × (port.outputs ≡ [])
-port_empty port is =
+pub record IsNew (port : Port) : Type 0 where
+  pub out_base : port.out_base ≡ 0
+  pub outputs : port.outputs ≡ []
+  pub in_base : port.in_base ≡ 0
+
+port_new : (port : Port) → is_port_of 0 port ≡ true → IsNew port
+port_new port is =
     let parts = and_parts (nat_le (length port.pending) MAX_HELD && nat_le (length port.outputs) MAX_HELD) (nat_le port.in_base 0 && nat_le (port.out_base + length port.outputs) 0) is in
-    let out = (and_parts (nat_le port.in_base 0) (nat_le (port.out_base + length port.outputs) 0) parts.1).1 in
-    let few = leb-true (port.out_base + length port.outputs) 0 out in
-    (omega (arith, few), nil_from_length port.outputs (omega (arith, few)))
+    let both = and_parts (nat_le port.in_base 0) (nat_le (port.out_base + length port.outputs) 0) parts.1 in
+    let few = leb-true (port.out_base + length port.outputs) 0 both.1 in
+    let arrived = leb-true port.in_base 0 both.0 in
+    record { out_base = omega (arith, few); outputs = nil_from_length port.outputs (omega (arith, few)); in_base = omega (arith, arrived) }
 
 port_there : (ports : List Port) (p : ℕ) (port : Port) → AllByRecursion (λ x. is_port_of 0 x ≡ true) ports → slice_get ports p ≡ Some port → is_port_of 0 port ≡ true
 port_there [] p port all at = cc
@@ -46,5 +52,14 @@ port_there (x ∷ ports) zero port all at = let same : x ≡ port = cc in subst 
 port_there (x ∷ ports) (suc p) port all at = port_there ports p port all.1 at
 
 pub formatted_port : (start : Network NodeState) (w : World NodeState) → BeginsFormatted t414 device_areas start w → (p : ℕ) (port : Port) → slice_get start.ports p ≡ Some port
-    → (port.out_base ≡ 0) × (port.outputs ≡ [])
-formatted_port start w F p port at = port_empty port (port_there start.ports p port (formatted_ports start w F) at)
+    → IsNew port
+formatted_port start w F p port at = port_new port (port_there start.ports p port (formatted_ports start w F) at)
+
+-- of a port that is there, or isn't
+pub none_arrived : (start : Network NodeState) (w : World NodeState) → BeginsFormatted t414 device_areas start w → (p : ℕ) → (port_or_fresh start p).in_base ≡ 0
+none_arrived start w F p = elim (slice_get_cases start.ports p).1 [
+  | inl at ↦
+      let new = formatted_port start w F p at.0 at.2 in
+      ap (λ (port : Port). port.in_base) (get_or_from_slice_get start.ports p at.0 fresh_value.port at.2) ∙ new.in_base
+  | inr past ↦ ap (λ (port : Port). port.in_base) (get_or_past start.ports p fresh_value.port past.0)
+]

@@ -1,12 +1,15 @@
 -- One history of processes, one after the other.
-use Rattle.std.proofs.Common.{◌≡◌, ℕ, ◌<◌, ◌≤◌, inl, inr, List, [], ◌∷◌, length, take, Some, Ok, sym, ap, subst, ◌∙◌, arith}
+use Rattle.std.proofs.Common.{◌≡◌, ℕ, ◌+◌, ◌-◌, ◌<◌, ◌≤◌, inl, inr, List, [], ◌∷◌, ◌++◌, length, take, drop, Some, Ok, sym, ap, subst, ◌∙◌, arith}
 use Rattle.std.specs.Prelude.{slice_get}
-use Rattle.tp_law_processes.proofs.Lower.{AllByRecursion, length-take-le, take_all, Entry, NodeState, t414, t414_ends, Network, after, next_number, moment, Opened, next_of, opening, verdict, World, held_opened, crash_opens, Began, Follows, now_is, LeadsToBytes}
-use Rattle.tp_law_processes.specs.Processes.{AreInOrder, Process, Showing, answered, journal_of, last_left, showings}
+use Rattle.tp_law_processes.proofs.Lower.{AllByRecursion, length-take-le, take_all, accepted, Entry, HostIn, NodeState, t414, t414_ends, Network, after, next_number, moment, Opened, next_of, opening, verdict, World, held_opened, crash_opens, Began, Follows, now_is, LeadsToBytes, port_or_fresh}
+use Rattle.tp_law_processes.specs.Inputs.{all_in, bytes_in}
+use Rattle.tp_law_processes.specs.Processes.{AreInOrder, MayHand, Process, Showing, answered, journal_of, last_left, showings}
 use Rattle.tp_law_processes.specs.OneHistory.{HasPlace, OneHistory, OpensAfter}
-use Rattle.tp_law_processes.proofs.Joined.{after_joined, get_high, get_low, joined, length_joined, take_low}
+use Rattle.tp_law_processes.proofs.Accepted.{accepted_alike, accepted_is, accepted_then}
+use Rattle.tp_law_processes.proofs.FreshPorts.{none_arrived}
+use Rattle.tp_law_processes.proofs.Joined.{after_joined, get_dropped, get_high, get_low, joined, length_joined, take_high, take_low, take_parts}
 use Rattle.tp_law_processes.proofs.Parts.{shown_part}
-use Rattle.tp_law_processes.proofs.Shows.{IsShowing, facts}
+use Rattle.tp_law_processes.proofs.Shows.{IsShowing, facts, hands}
 use Rattle.tp_law_processes.proofs.Stops.{IsIdle, answer_stands, least_is, shown_recovers, stopped}
 
 all_weaker : {A : Type 0} (P Q : A → Type 0) (xs : List A) → ((x : A) → P x → Q x) → AllByRecursion P xs → AllByRecursion Q xs
@@ -25,13 +28,22 @@ record IsShownIn (start : Network NodeState) (journal : List Entry) (least : ℕ
 abbrev Acknowledged : (start : Network NodeState) → List Entry → ℕ → Process start → Type 0
 Acknowledged start journal number p = moment p.new ≤ p.at → (k : ℕ) → number ≤ k → k < answered p.did → slice_get journal k ≡ slice_get (journal_of p.did) k
 
+abbrev Handed : (start : Network NodeState) → List Entry → (number upto : ℕ) → Process start → Type 0
+Handed start journal number upto p =
+    (k port byte : ℕ) → number ≤ k → k < upto → slice_get journal k ≡ Some (HostIn port byte)
+    → MayHand p.did port (length (all_in start port (take k journal))) byte
+
 record Placed (start : Network NodeState) (journal : List Entry) (least : ℕ) (p : Process start) : Type 0 where
   number : ℕ
+  upto : ℕ
   from : least ≤ number
-  few : number ≤ length journal
+  onward : number ≤ upto
+  few : upto ≤ length journal
   found : OpensAfter start (take number journal) p.old.now.bytes
+  left : OpensAfter start (take upto journal) p.left
   shown : AllByRecursion (λ x. x.there ≤ p.at → IsShownIn start journal number x) (showings start p.old p.new p.did)
   acknowledged : Acknowledged start journal number p
+  handed : Handed start journal number upto p
 
 -- one journal for all, which leads to what opens first where that says
 record Whole (start : Network NodeState) (was : List ℕ) (o : Opened) (processes : List (Process start)) : Type 0 where
@@ -75,11 +87,15 @@ idle_whole start p o processes reads I W =
       each = (
         record {
           number = n;
+          upto = n;
           from = omega arith;
+          onward = omega arith;
           few = W.first;
           found = record { opened = o; reads = reads; count = length-take-le n W.journal W.first; leads = W.had };
+          left = record { opened = o; reads = ap verdict I.same ∙ reads; count = length-take-le n W.journal W.first; leads = W.had };
           shown = all_weaker _ _ (showings start p.old p.new p.did) (λ x later by. absurd (omega (arith, later, by))) I.none;
           acknowledged = λ ended k from below. let none = I.silent ended in absurd (omega (arith, none, below));
+          handed = λ k port byte from below there. absurd (omega (arith, from, below));
         },
         W.each,
       );
@@ -91,7 +107,8 @@ idle_whole start p o processes reads I W =
 -- ## One that left something, before others
 
 module _ (start : Network NodeState) (p : Process start) (o : Opened) (F : Follows start (journal_of p.did) 0 p.old.now.bytes p.left) (same : F.opened ≡ o)
-    (next : Opened) (opens : verdict p.left ≡ Ok next) (processes : List (Process start)) (W : Whole start p.left next processes) where
+    (next : Opened) (opens : verdict p.left ≡ Ok next) (processes : List (Process start)) (W : Whole start p.left next processes)
+    (none : (port : ℕ) → (port_or_fresh start port).in_base ≡ 0) where
   abbrev own : List Entry
   own = journal_of p.did
 
@@ -133,21 +150,48 @@ module _ (start : Network NodeState) (p : Process start) (o : Opened) (F : Follo
         shows = record { state = L.state; leads = ap (after t414 start) (take_low S.number m own W.journal up there) ∙ L.leads; unconfirmed = L.unconfirmed; are = L.are };
       }
 
+  own_handed : Handed start whole_journal (next_of o) m p
+  own_handed k port byte from below is =
+      let n = next_of o in
+      let part = drop n own in
+      let here : slice_get part (k - n) ≡ Some (HostIn port byte) =
+      get_dropped k n own from ∙ sym (get_low k m own W.journal below there W.first) ∙ is in
+      let may = hands start p.old p.new p.did o (F.reads ∙ ap (λ (q : Opened). Ok q) same) (k - n) port byte here in
+      let leads : after t414 start (take n own) ≡ Some o.now = subst (λ (q : Opened). after t414 start (take (next_of q) own) ≡ Some q.now) same F.had in
+      let had = accepted_is start o.now (take n own) leads port (none port) in
+      let then = accepted_then start port (take n own) (take (k - n) part) in
+      let front : take k whole_journal ≡ take n own ++ take (k - n) part =
+      take_low k m own W.journal (omega (arith, below)) there ∙ take_parts k n own from (omega (arith, low, there)) in
+      let whole : length (all_in start port (take k whole_journal)) ≡ length (all_in start port (take n own ++ take (k - n) part)) =
+      ap (λ es. length (all_in start port es)) front in
+      let place : accepted (port_or_fresh o.now port) + length (bytes_in port (take (k - n) part)) ≡ length (all_in start port (take k whole_journal)) =
+      omega (arith, had, then, whole) in
+      subst (λ at. MayHand p.did port at byte) place may
+
   own_leads : after t414 start (take (next_of o) whole_journal) ≡ Some F.opened.now
   own_leads = ap (after t414 start) (take_low (next_of o) m own W.journal low there) ∙ ap (λ (q : Opened). after t414 start (take (next_of q) own)) (sym same) ∙ F.had
 
   own_placed : Placed start whole_journal (next_of o) p
   own_placed =
       let first = W.first in
-      let few : next_of o ≤ length whole_journal = omega (arith, low, first, long) in record {
+      let all : m ≤ length whole_journal = omega (arith, first, long) in
+      let few : next_of o ≤ length whole_journal = omega (arith, low, all) in record {
         number = next_of o;
+        upto = m;
         from = omega arith;
-        few = few;
+        onward = low;
+        few = all;
         found = record {
           opened = F.opened;
           reads = F.reads;
           count = length-take-le (next_of o) whole_journal few ∙ ap (λ (q : Opened). next_of q) (sym same);
           leads = own_leads;
+        };
+        left = record {
+          opened = next;
+          reads = opens;
+          count = length-take-le m whole_journal all;
+          leads = ap (after t414 start) (take_low m m own W.journal (omega arith) there) ∙ at.1;
         };
         shown = all_weaker _ _ (showings start p.old p.new p.did) own_shown (facts start p.old p.new p.did).shown;
         acknowledged = λ ended k from below.
@@ -155,7 +199,16 @@ module _ (start : Network NodeState) (p : Process start) (o : Opened) (F : Follo
             let most = least_is start own (answered p.did) 0 p.left G.recovers F.recovers in
             let number = at.0 in
             get_low k m own W.journal (omega (arith, below, most, number)) there W.first;
+        handed = own_handed;
       }
+
+  opens_later : (k : ℕ) (bytes : List ℕ) → m ≤ k → k ≤ length W.journal → OpensAfter start (take k W.journal) bytes → OpensAfter start (take k whole_journal) bytes
+  opens_later k bytes up few O = record {
+    opened = O.opened;
+    reads = O.reads;
+    count = length-take-le k whole_journal (omega (arith, few, long)) ∙ sym (length-take-le k W.journal few) ∙ O.count;
+    leads = leads_same k up ∙ O.leads;
+  }
 
   later_shown : (least : ℕ) → m ≤ least → (x : Showing) → IsShownIn start W.journal least x → IsShownIn start whole_journal least x
   later_shown least up x S =
@@ -168,23 +221,34 @@ module _ (start : Network NodeState) (p : Process start) (o : Opened) (F : Follo
         shows = record { state = L.state; leads = leads_same S.number (omega (arith, up, behind)) ∙ L.leads; unconfirmed = L.unconfirmed; are = L.are };
       }
 
+  later_handed : (q : Process start) (P : Placed start W.journal m q) → Handed start whole_journal P.number P.upto q
+  later_handed q P k port byte up below is =
+      let from = P.from in
+      let above : m ≤ k = omega (arith, from, up) in
+      let may = P.handed k port byte up below (sym (get_high k m own W.journal above there W.first) ∙ is) in
+      let rest = take (k - m) (drop m W.journal) in
+      let alike = accepted_alike start next.now port (none port) (take m W.journal) (take m own) rest W.had at.1 in
+      let place : length (all_in start port (take k W.journal)) ≡ length (all_in start port (take k whole_journal)) =
+      ap (λ es. length (all_in start port es)) (take_parts k m W.journal above W.first)
+      ∙ alike
+      ∙ ap (λ es. length (all_in start port es)) (sym (take_high k m own W.journal above there)) in
+      subst (λ at. MayHand q.did port at byte) place may
+
   later_placed : (q : Process start) → Placed start W.journal m q → Placed start whole_journal (next_of o) q
   later_placed q P =
       let from = P.from in
-      let few = P.few in
-      let found = P.found in
-      let more : P.number ≤ length whole_journal = omega (arith, few, long) in record {
+      let onward = P.onward in
+      let few = P.few in record {
         number = P.number;
+        upto = P.upto;
         from = omega (arith, low, from);
-        few = more;
-        found = record {
-          opened = found.opened;
-          reads = found.reads;
-          count = length-take-le P.number whole_journal more ∙ sym (length-take-le P.number W.journal few) ∙ found.count;
-          leads = leads_same P.number from ∙ found.leads;
-        };
+        onward = onward;
+        few = omega (arith, few, long);
+        found = opens_later P.number q.old.now.bytes from (omega (arith, onward, few)) P.found;
+        left = opens_later P.upto q.left (omega (arith, from, onward)) few P.left;
         shown = all_weaker _ _ (showings start q.old q.new q.did) (λ x S by. later_shown P.number from x (S by)) P.shown;
         acknowledged = λ ended k up below. get_high k m own W.journal (omega (arith, from, up)) there W.first ∙ P.acknowledged ended k up below;
+        handed = later_handed q P;
       }
 
   next_whole : Whole start p.old.now.bytes o (p ∷ processes)
@@ -219,13 +283,14 @@ whole : (start : Network NodeState) (before : World NodeState) (was : List ℕ) 
     → Whole start was o processes
 whole start before was o began reads [] order = none_whole start before was o began reads
 whole start before was o began reads (p ∷ processes) order =
+    let R = began.reached in
     let began_own : Began start before p.old.now.bytes = subst (Began start before) (sym order.0) began in
     let reads_own : verdict p.old.now.bytes ≡ Ok o = ap verdict order.0 ∙ reads in
     let made : Whole start p.old.now.bytes o (p ∷ processes) = elim (stopped start p before began_own o reads_own) [
       | inl F ↦
           let next = opens_again start (journal_of p.did) p.old.now.bytes p.left F in
           let same : F.opened ≡ o = let both = sym F.reads ∙ reads_own in cc in
-          next_whole start p o F same next.0 next.1 processes (whole start F.world p.left next.0 F.begins next.1 processes order.1)
+          next_whole start p o F same next.0 next.1 processes (whole start F.world p.left next.0 F.begins next.1 processes order.1) (none_arrived start R.first R.formatted)
       | inr I ↦
           idle_whole start p o processes reads_own I
           (whole start before p.left o (subst (Began start before) (sym I.same) began_own) (ap verdict I.same ∙ reads_own) processes order.1)
@@ -242,11 +307,15 @@ one_history start before was began processes order =
       each = all_weaker (Placed start W.journal (next_of O.opened)) (HasPlace start W.journal) processes
           (λ p P. record {
             number = P.number;
+            upto = P.upto;
+            onward = P.onward;
             few = P.few;
             found = P.found;
+            left = P.left;
             shown = all_weaker _ _ (showings start p.old p.new p.did)
                 (λ x S by. let I = S by in shown_part start R.first R.formatted W.journal I.number x.port x.from x.bytes I.shows) P.shown;
             acknowledged = P.acknowledged;
+            handed = P.handed;
           }) W.each;
       left = W.left;
       world = W.world;

@@ -26,11 +26,21 @@ module _ {A : Type 0} where
       let long = length-take-le n xs there in
       take-append-le m (take n xs) (drop n ys) (omega (arith, long, low)) ∙ take-take m n xs low
 
-  take_high : (m n : ℕ) (xs ys : List A) → n ≤ m → n ≤ length xs → take m (joined n xs ys) ≡ take n xs ++ take (m - n) (drop n ys)
+  pub take_high : (m n : ℕ) (xs ys : List A) → n ≤ m → n ≤ length xs → take m (joined n xs ys) ≡ take n xs ++ take (m - n) (drop n ys)
   take_high m n xs ys up there =
       let long = length-take-le n xs there in
       let at : m ≡ length (take n xs) + (m - n) = omega (arith, long, up) in
       ap (λ k. take k (joined n xs ys)) at ∙ take-append-add (take n xs) (drop n ys) (m - n)
+
+  -- of one list
+  pub take_parts : (m n : ℕ) (xs : List A) → n ≤ m → n ≤ length xs → take m xs ≡ take n xs ++ take (m - n) (drop n xs)
+  take_parts m n xs up there = ap (take m) (sym (take-append-drop n xs)) ∙ take_high m n xs xs up there
+
+  pub get_dropped : (k n : ℕ) (xs : List A) → n ≤ k → slice_get (drop n xs) (k - n) ≡ slice_get xs k
+  get_dropped k zero xs up = let same : k - zero ≡ k = omega arith in ap (slice_get xs) same
+  get_dropped zero (suc n) xs up = absurd (omega (arith, up))
+  get_dropped (suc k) (suc n) [] up = refl
+  get_dropped (suc k) (suc n) (x ∷ xs) up = let same : suc k - suc n ≡ k - n = omega arith in ap (slice_get (drop n xs)) same ∙ get_dropped k n xs (omega (arith, up))
 
   pub length_joined : (n : ℕ) (xs ys : List A) → n ≤ length xs → n ≤ length ys → length (joined n xs ys) ≡ length ys
   length_joined n xs ys there then =
@@ -46,7 +56,7 @@ after_joined start now n m xs ys up there then one other =
     ap (after t414 start) (take_high m n xs ys up there)
     ∙ after_front t414 start now (take n xs) (take (m - n) (drop n ys)) one
     ∙ sym (after_front t414 start now (take n ys) (take (m - n) (drop n ys)) other)
-    ∙ ap (after t414 start) (sym (take_high m n ys ys up then) ∙ ap (take m) (take-append-drop n ys))
+    ∙ ap (after t414 start) (sym (take_parts m n ys up then))
 
 -- ## From a device that was formatted
 

@@ -1,9 +1,12 @@
 pub mod Lower
+mod Accepted
 mod Changes
 mod FreshPorts
+mod Handing
 mod Histories
 mod Inputs
 mod Joined
+mod OneInput
 mod Outputs
 mod Parts
 mod Queue

@@ -7,7 +7,7 @@ pub use Rattle.std.proofs.lemmas.Option.{cond_some, get_or_from_slice_get, slice
 pub use Rattle.std.specs.List.{AllByRecursion}
 pub use Rattle.std.specs.Option.{option_map}
 pub use Rattle.tp_model.specs.Areas.{Held, next_number}
-pub use Rattle.tp_model.specs.Counted.{is_at}
+pub use Rattle.tp_model.specs.Counted.{accepted, is_at}
 pub use Rattle.tp_model.specs.CutImage.{is_port_of}
 unfoldable pub use Rattle.tp_model.specs.CutImage.{lines_in, nodes_in, ports_in}
 pub use Rattle.tp_model.specs.Device.{area_start, content_of}
@@ -46,11 +46,16 @@ pub use Rattle.tp_law_device.proofs.Opens.{held_opened, reads_of}
 pub use Rattle.tp_law_device.proofs.ReadCuts.{ports_read}
 pub use Rattle.tp_law_device.proofs.Verdicts.{crash_opens}
 pub use Rattle.tp_book.specs.Ports.{fresh_value}
+pub use Rattle.tp_shared.specs.HandedIn.{handed}
 pub use Rattle.tp_flush.proofs.Follows.{held_is, now_is, number_is, read_alone}
 pub use Rattle.tp_flush.specs.Follows.{Follows}
 pub use Rattle.tp_flush.specs.Known.{Began}
+pub use Rattle.tp_flush.specs.Settled.{HasFront}
 pub use Rattle.tp_stream_files.specs.Outputs.{OutputValue, given_of}
+pub use Rattle.tp_run.specs.HandedOver.{HandsIn}
+pub use Rattle.tp_run.specs.Input.{input_entries}
 pub use Rattle.tp_run.specs.Outlet.{OutletValue}
+pub use Rattle.tp_run.specs.Output.{confirms}
 pub use Rattle.tp_run.specs.Outset.{outset_in}
 pub use Rattle.tp_run.specs.Ran.{IsCalled}
 pub use Rattle.tp_run.specs.Shown.{LeadsToOutputs}

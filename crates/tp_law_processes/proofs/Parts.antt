@@ -45,11 +45,11 @@ module _ (start : Network NodeState) (first : World NodeState) (formatted : Begi
       let grew = G.2 in
       let here : port_or_fresh L.state port ≡ G.0 = get_or_from_slice_get L.state.ports port G.0 fresh_value.port G.1 in
       let based : (port_or_fresh L.state port).out_base ≡ length grew.gone =
-      ap (λ (p : Port). p.out_base) here ∙ (let base = grew.base in let none = fresh.0 in omega (arith, base, none)) in
+      ap (λ (p : Port). p.out_base) here ∙ (let base = grew.base in let none = fresh.out_base in omega (arith, base, none)) in
       let low = L.unconfirmed in
       let at : from ≡ length grew.gone + behind = omega (arith, based, low) in
       let rest = bytes_out start.wires port (drop number journal) in
-      let grown : bytes_out start.wires port front ≡ was.outputs ++ bytes_out start.wires port front = ap (λ xs. xs ++ bytes_out start.wires port front) (sym fresh.1) in
+      let grown : bytes_out start.wires port front ≡ was.outputs ++ bytes_out start.wires port front = ap (λ xs. xs ++ bytes_out start.wires port front) (sym fresh.outputs) in
       let out : bytes_out start.wires port front ≡ grew.gone ++ outputs =
       grown ∙ grew.are ∙ ap (λ (p : Port). grew.gone ++ p.outputs) (sym here) in
       let all : bytes_out start.wires port journal ≡ grew.gone ++ (outputs ++ rest) =

@@ -1,8 +1,10 @@
--- What the clauses of calls say of what was left and shown, in one form for all of them.
-use Rattle.std.proofs.Common.{◌≡◌, ℕ, ◌+◌, ◌-◌, ◌<◌, ◌≤◌, ◌⊎◌, inl, inr, List, [], ◌∷◌, ◌++◌, length, take, drop, Result, Ok, Err, sym, ap, ◌∙◌, arith}
-use Rattle.std.specs.Prelude.{map}
-use Rattle.tp_law_processes.proofs.Lower.{AllByRecursion, take_all, Entry, NodeState, t414, Network, MayBe, LeavesOnly, State, moment, device_areas, Opened, next_of, verdict, RecoversTo, Follows, read_alone, RunFault, OutletValue, outset_in, IsCalled, LeadsToOutputs, OutputValue, given_of, AreShown, ArePut, EachWith, Got, LeadsToBytes, PutPiece, port_or_fresh}
-use Rattle.tp_law_processes.specs.Processes.{ByCompaction, ByReading, ByRun, ByStream, Did, Showing, answered, got_showings, journal_of, outlet_showings, piece_showings, set_out_at, showings, sink_showings}
+-- What the clauses of calls say of what was left, shown and handed in, in one form for all of them.
+use Rattle.std.proofs.Common.{◌≡◌, ℕ, zero, suc, ◌+◌, ◌-◌, ◌<◌, ◌≤◌, ◌⊎◌, inl, inr, List, [], ◌∷◌, ◌++◌, length, take, drop, Some, Result, Ok, Err, sym, ap, ◌∙◌, arith}
+use Rattle.std.specs.Prelude.{map, slice_get}
+use Rattle.tp_law_processes.proofs.Lower.{AllByRecursion, take_all, accepted, Entry, HostIn, NodeState, t414, Network, MayBe, LeavesOnly, State, moment, device_areas, Opened, next_of, verdict, RecoversTo, Follows, read_alone, RunFault, OutletValue, outset_in, IsCalled, LeadsToOutputs, OutputValue, given_of, AreShown, ArePut, EachWith, Got, LeadsToBytes, PutPiece, port_or_fresh}
+use Rattle.tp_law_processes.specs.Inputs.{bytes_in}
+use Rattle.tp_law_processes.specs.Processes.{ByCompaction, ByReading, ByRun, ByStream, Did, MayHand, Showing, answered, got_showings, journal_of, outlet_showings, piece_showings, set_out_at, showings, sink_showings}
+use Rattle.tp_law_processes.proofs.Handing.{handed_bytes, none_handed, run_hands}
 
 -- Bytes were shown while the device was in some state. They are outputs where some first entries lead, no fewer than the device had when it was
 -- opened. Whatever a crash leaves from then on has each of these entries.
@@ -112,3 +114,30 @@ facts start old new (ByStream (Err fault) was now clause) = record {
 facts start old new (ByCompaction (Ok done) clause) = record { leaves = clause.leaves; stored = λ left may k below. clause.stored left may; shown = tt }
 facts start old new (ByCompaction (Err fault) clause) = record { leaves = clause.leaves; stored = λ left may k below. absurd (omega (arith, below)); shown = tt }
 facts start old new (ByReading clause) = record { leaves = read_alone start [] old new clause; stored = λ left may k below. absurd (omega (arith, below)); shown = tt }
+
+-- ## What any call hands in
+
+none_read : (n k : ℕ) (e : Entry) → slice_get (drop n []) k ≡ Some e → ⊥
+none_read zero k e there = cc
+none_read (suc n) k e there = cc
+
+-- how many bytes a port of a device that opened has accepted after these entries
+abbrev pub came_to : Opened → ℕ → List Entry → ℕ
+came_to o port es = accepted (port_or_fresh o.now port) + length (bytes_in port es)
+
+-- each byte that entries since the opening hand in is one that the call may hand in
+abbrev pub Hands : {start : Network NodeState} {old new : State} → Did start old new → Opened → Type 0
+Hands did o =
+    (k port byte : ℕ) → slice_get (drop (next_of o) (journal_of did)) k ≡ Some (HostIn port byte)
+    → MayHand did port (came_to o port (take k (drop (next_of o) (journal_of did)))) byte
+
+pub hands : (start : Network NodeState) (old new : State) (did : Did start old new) (o : Opened) → verdict old.now.bytes ≡ Ok o → Hands did o
+hands start old new (ByRun job input was now result clause) o reads k port byte there =
+    let H = clause.ran.handed o reads in
+    let part = drop (next_of o) clause.ran.journal in
+    run_hands start clause.ran.journal o job.port input was.taken now.taken H.entries H.hands part H.front k port byte there
+hands start old new (ByStream result was now clause) o reads k port byte there = tt
+hands start old new (ByCompaction result clause) o reads k port byte there =
+    let part = drop (next_of o) clause.journal in
+    none_handed port k byte part (sym (handed_bytes port part) ∙ ap (bytes_in port) (clause.untouched o reads)) there
+hands start old new (ByReading clause) o reads k port byte there = none_read (next_of o) k (HostIn port byte) there

@@ -26,6 +26,6 @@ pub use Rattle.tp_run.specs.declared.compacting.CompactFault.{CompactFault}
 pub use Rattle.tp_run.specs.declared.compacting.Compaction.{Compaction}
 pub use Rattle.tp_run.specs.declared.fault.RunFault.{RunFault}
 pub use Rattle.tp_run.specs.declared.job.Job.{Job}
-pub use Rattle.tp_stream.specs.Put.{AreShown, EachWith, Got, PutPiece, StreamedInto}
+pub use Rattle.tp_stream.specs.Put.{AreShown, EachWith, Got, PutPiece, StreamedInto, port_or_fresh}
 pub use Rattle.tp_stream.specs.Standing.{from_of, stands_opened}
 pub use Rattle.tp_stream.specs.declared.fault.StreamFault.{StreamFault}

@@ -1,7 +1,8 @@
 -- Processes over one device, one after the other: what each did by the clause of its call, what it showed, and what it acknowledged.
-use Rattle.std.specs.Prelude.{◌≡◌, ◌≤◌, ◌⊎◌, ℕ, ◌+◌, List, [], ◌∷◌, ◌++◌, length, map, Result, Ok, Err}
+use Rattle.std.specs.Prelude.{◌≡◌, ◌≤◌, ◌⊎◌, ℕ, ◌+◌, List, [], ◌∷◌, ◌++◌, length, map, Some, Result, Ok, Err, slice_get}
 use Rattle.std.proofs.Common.{inl, inr}
 use Rattle.tp_law_processes.specs.Lower.{Entry, NodeState, Network, IsSynced, MayHaveLeft, State, moment, Opened, next_of, LeavesNothingNew, CompactFault, Compaction, RunFault, Job, Compacted, OutletValue, outset_in, IsCalled, RanInto, OutputValue, given_of, Ended, StreamFault, AreShown, EachWith, Got, PutPiece, StreamedInto, from_of, stands_opened}
+use Rattle.tp_law_processes.specs.Inputs.{IsFrontOf}
 
 -- What a process did between two states of its device, by the clause of its call: a run, a stream, a compaction, or a call that wrote nothing.
 pub data Did (start : Network NodeState) (old new : State) : Type 0 where
@@ -26,6 +27,21 @@ answered (ByStream (Err fault) was now clause) = 0
 answered (ByCompaction (Ok done) clause) = done.next
 answered (ByCompaction (Err fault) clause) = 0
 answered (ByReading clause) = 0
+
+-- A process may hand a port this byte as the one at this position: its call was given an input for the port that has the byte there. A compaction and
+-- a reading hand in nothing. Of a stream this isn't proved: any byte may come from it.
+abbrev pub MayHand : {start : Network NodeState} {old new : State} → Did start old new → (port at byte : ℕ) → Type 0
+MayHand (ByRun job input was now result clause) port at byte = (port ≡ job.port) × (slice_get input at ≡ Some byte)
+MayHand (ByStream result was now clause) port at byte = Unit {0}
+MayHand (ByCompaction result clause) port at byte = ⊥
+MayHand (ByReading clause) port at byte = ⊥
+
+-- each input for this port is a front of `all`; a stream's isn't counted, since nothing is proved of it
+abbrev pub GivesFrontOf : {start : Network NodeState} {old new : State} → Did start old new → (port : ℕ) (all : List ℕ) → Type 0
+GivesFrontOf (ByRun job input was now result clause) port all = job.port ≡ port → IsFrontOf all input
+GivesFrontOf (ByStream result was now clause) port all = ⊥
+GivesFrontOf (ByCompaction result clause) port all = Unit {0}
+GivesFrontOf (ByReading clause) port all = Unit {0}
 
 -- Bytes that were shown of a port, the first of them at this position among all that the port puts out, when its device had come to a moment.
 pub record Showing : Type 0 where
