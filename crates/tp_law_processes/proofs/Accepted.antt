@@ -1,7 +1,7 @@
 -- How many bytes a port has accepted, by the entries.
 use Rattle.std.proofs.Common.{◌≡◌, ℕ, ◌+◌, inl, inr, List, [], ◌++◌, length, refl, sym, ap, subst, ◌∙◌, arith, length-append, Some}
-use Rattle.tp_law_processes.proofs.Lower.{flat_map-append, get_or_past, get_or_from_slice_get, slice_get_cases, accepted, Entry, NodeState, t414, Network, Port, after, has_four_links, after_shape, fresh_value, port_or_fresh}
-use Rattle.tp_law_processes.specs.Inputs.{TookIn, all_in, byte_in, bytes_in}
+use Rattle.tp_law_processes.proofs.Lower.{get_or_past, get_or_from_slice_get, slice_get_cases, accepted, Entry, NodeState, t414, Network, Port, after, has_four_links, after_shape, fresh_value, port_or_fresh, bytes_in, bytes_in-append}
+use Rattle.tp_law_processes.specs.Inputs.{TookIn, all_in}
 use Rattle.tp_law_processes.proofs.Inputs.{after_absent, after_taken}
 
 accepted_more : (more : List ℕ) (before later : Port) → TookIn more before later → accepted later ≡ accepted before + length more
@@ -41,7 +41,7 @@ module _ (start s : Network NodeState) (es : List Entry) (leads : after t414 sta
 pub accepted_then : (start : Network NodeState) (p : ℕ) (xs ys : List Entry) → length (all_in start p (xs ++ ys)) ≡ length (all_in start p xs) + length (bytes_in p ys)
 accepted_then start p xs ys =
     let was = (port_or_fresh start p).pending in
-    let both = ap length (flat_map-append (byte_in p) xs ys) ∙ length-append (bytes_in p xs) (bytes_in p ys) in
+    let both = ap length (bytes_in-append p xs ys) ∙ length-append (bytes_in p xs) (bytes_in p ys) in
     let first = length-append was (bytes_in p xs) in
     let all = length-append was (bytes_in p (xs ++ ys)) in
     omega (arith, both, first, all)

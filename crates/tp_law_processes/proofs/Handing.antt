@@ -1,8 +1,7 @@
 -- Which byte an entry hands to a port, by the bytes of all entries.
-use Rattle.std.proofs.Common.{◌≡◌, ◌≢◌, ℕ, zero, suc, ◌+◌, inl, inr, cond, List, [], ◌∷◌, ◌++◌, length, map, take, drop, Option, Some, refl, sym, ap, subst, ◌∙◌, arith, append-nil, length-append, ne_eqb, eq-eqb}
+use Rattle.std.proofs.Common.{◌≡◌, ◌≢◌, ℕ, zero, suc, ◌+◌, inl, inr, cond, List, [], ◌∷◌, ◌++◌, length, take, drop, Option, Some, refl, sym, ap, subst, ◌∙◌, arith, append-nil, length-append, ne_eqb, eq-eqb}
 use Rattle.std.specs.Prelude.{slice_get}
-use Rattle.tp_law_processes.proofs.Lower.{flat_map-append, take-append-le, take-take, take_all, cases_eq, Entry, Run, Take, HostIn, Confirm, Turn, NodeState, Network, HasFront, handed, HandsIn, outset_in, Opened, input_entries, confirms}
-use Rattle.tp_law_processes.specs.Inputs.{byte_in, bytes_in}
+use Rattle.tp_law_processes.proofs.Lower.{take-append-le, take-take, take_all, cases_eq, Entry, HostIn, NodeState, Network, HasFront, handed, HandsIn, outset_in, Opened, input_entries, confirms, byte_in, bytes_in, bytes_in-append, bytes_in-handed, bytes_in-other, bytes_in-same}
 
 -- ## A byte at its position
 
@@ -38,7 +37,7 @@ pub byte_there : (p k b : ℕ) (es : List Entry) → slice_get es k ≡ Some (Ho
 byte_there p k b es there =
     let P = parts k es (HostIn p b) there in
     let split : bytes_in p es ≡ bytes_in p (take k es) ++ b ∷ bytes_in p P.0 =
-    ap (bytes_in p) P.1 ∙ flat_map-append (byte_in p) (take k es) (HostIn p b ∷ P.0) ∙ ap (λ xs. bytes_in p (take k es) ++ (xs ++ bytes_in p P.0)) (in_itself p b) in
+    ap (bytes_in p) P.1 ∙ bytes_in-append p (take k es) (HostIn p b ∷ P.0) ∙ ap (λ xs. bytes_in p (take k es) ++ (xs ++ bytes_in p P.0)) (in_itself p b) in
     ap (λ xs. slice_get xs (length (bytes_in p (take k es)))) split ∙ get_after (bytes_in p (take k es)) (bytes_in p P.0) b
 
 -- If all of these are an input's, it is the input's byte at that position.
@@ -53,22 +52,6 @@ none_handed p k b es none there = let at = ap (λ xs. slice_get xs (length (byte
 
 -- ## What the host hands in
 
-pub handed_bytes : (p : ℕ) (es : List Entry) → bytes_in p (handed es) ≡ bytes_in p es
-handed_bytes p [] = refl
-handed_bytes p (Run i k ∷ es) = handed_bytes p es
-handed_bytes p (Take line token ∷ es) = handed_bytes p es
-handed_bytes p (HostIn q x ∷ es) = ap (λ xs. byte_in p (HostIn q x) ++ xs) (handed_bytes p es)
-handed_bytes p (Confirm q upto ∷ es) = handed_bytes p es
-handed_bytes p (Turn i links k ∷ es) = handed_bytes p es
-
-own_bytes : (p : ℕ) (xs : List ℕ) → bytes_in p (map (HostIn p) xs) ≡ xs
-own_bytes p [] = refl
-own_bytes p (x ∷ xs) = ap (λ ys. ys ++ bytes_in p (map (HostIn p) xs)) (in_itself p x) ∙ ap (λ ys. x ∷ ys) (own_bytes p xs)
-
-other_bytes : (p q : ℕ) → q ≢ p → (xs : List ℕ) → bytes_in p (map (HostIn q) xs) ≡ []
-other_bytes p q apart [] = refl
-other_bytes p q apart (x ∷ xs) = ap (λ test. cond test (x ∷ []) [] ++ bytes_in p (map (HostIn q) xs)) (ne_eqb q p apart) ∙ other_bytes p q apart xs
-
 -- a front of what comes from a position on comes from there, too
 front_of : (all front rest : List ℕ) (at : ℕ) → AreOf all at (front ++ rest) → AreOf all at front
 front_of all front rest at are =
@@ -81,7 +64,7 @@ front_of all front rest at are =
 front_handed : (all : List ℕ) (at p : ℕ) (entries part : List Entry) → AreOf all at (bytes_in p entries) → HasFront entries (handed part) → AreOf all at (bytes_in p part)
 front_handed all at p entries part are F =
     let split : bytes_in p entries ≡ bytes_in p part ++ bytes_in p F.0 =
-    ap (bytes_in p) F.1 ∙ flat_map-append (byte_in p) (handed part) F.0 ∙ ap (λ xs. xs ++ bytes_in p F.0) (handed_bytes p part) in
+    ap (bytes_in p) F.1 ∙ bytes_in-append p (handed part) F.0 ∙ ap (λ xs. xs ++ bytes_in p F.0) (bytes_in-handed p part) in
     front_of all (bytes_in p part) (bytes_in p F.0) at (subst (AreOf all at) split are)
 
 -- ## What a run hands in
@@ -107,7 +90,7 @@ module _ (start : Network NodeState) (journal : List Entry) (o : Opened) (port :
         let last = confirms port (outset_in o port).confirmed C.printed in
         let both : bytes_in q entries ≡ bytes_in q first =
         ap (bytes_in q) C.handed
-        ∙ flat_map-append (byte_in q) first last
+        ∙ bytes_in-append q first last
         ∙ ap (λ xs. bytes_in q first ++ xs) (confirms_bytes q port (outset_in o port).confirmed C.printed)
         ∙ append-nil (bytes_in q first) in
         subst P (sym both) some
@@ -117,10 +100,10 @@ module _ (start : Network NodeState) (journal : List Entry) (o : Opened) (port :
   run_bytes =
       let rest = take (outset_in o port).room (drop (outset_in o port).accepted input) in
       only_input (AreOf input (outset_in o port).accepted) port refl
-      (subst (AreOf input (outset_in o port).accepted) (sym (own_bytes port rest)) (take_few (outset_in o port).room (drop (outset_in o port).accepted input)))
+      (subst (AreOf input (outset_in o port).accepted) (sym (bytes_in-same port rest)) (take_few (outset_in o port).room (drop (outset_in o port).accepted input)))
 
   no_bytes : (q : ℕ) → port ≢ q → bytes_in q entries ≡ []
-  no_bytes q apart = only_input (λ xs. xs ≡ []) q refl (other_bytes q port apart (take (outset_in o port).room (drop (outset_in o port).accepted input)))
+  no_bytes q apart = only_input (λ xs. xs ≡ []) q refl (bytes_in-other q port (take (outset_in o port).room (drop (outset_in o port).accepted input)) (ne_eqb port q apart))
 
   -- So each byte that a part of the journal hands in is the input's at its position, from the accepted bytes on.
   pub run_hands : (part : List Entry) → HasFront entries (handed part) → (k q byte : ℕ) → slice_get part k ≡ Some (HostIn q byte)

@@ -1,8 +1,8 @@
 -- One history of processes, one after the other.
 use Rattle.std.proofs.Common.{◌≡◌, ℕ, ◌+◌, ◌-◌, ◌<◌, ◌≤◌, inl, inr, List, [], ◌∷◌, ◌++◌, length, take, drop, Some, Ok, sym, ap, subst, ◌∙◌, arith}
 use Rattle.std.specs.Prelude.{slice_get}
-use Rattle.tp_law_processes.proofs.Lower.{AllByRecursion, length-take-le, take_all, accepted, Entry, HostIn, NodeState, t414, t414_ends, Network, after, next_number, moment, Opened, next_of, opening, verdict, World, held_opened, crash_opens, Began, Follows, now_is, LeadsToBytes, port_or_fresh}
-use Rattle.tp_law_processes.specs.Inputs.{all_in, bytes_in}
+use Rattle.tp_law_processes.proofs.Lower.{AllByRecursion, length-take-le, take_all, accepted, Entry, HostIn, NodeState, t414, t414_ends, Network, after, next_number, moment, Opened, next_of, opening, verdict, World, held_opened, crash_opens, Began, Follows, now_is, LeadsToBytes, port_or_fresh, bytes_in}
+use Rattle.tp_law_processes.specs.Inputs.{all_in}
 use Rattle.tp_law_processes.specs.Processes.{AreInOrder, MayHand, Process, Showing, answered, journal_of, last_left, showings}
 use Rattle.tp_law_processes.specs.OneHistory.{HasPlace, OneHistory, OpensAfter}
 use Rattle.tp_law_processes.proofs.Accepted.{accepted_alike, accepted_is, accepted_then}

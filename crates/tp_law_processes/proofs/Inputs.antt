@@ -1,8 +1,8 @@
 -- What a port has accepted is what the host's entries handed to it.
 use Rattle.std.proofs.Common.{◌≡◌, ℕ, ◌+◌, ◌<◌, ◌≤◌, cond, List, [], ◌∷◌, ◌++◌, length, ne_eqb, refl, sym, ap, subst, ◌∙◌, arith, append-nil, Option, Some}
 use Rattle.std.specs.Prelude.{slice_get, ◌==◌, ◌&&◌, nat_lt, nat_le}
-use Rattle.tp_law_processes.proofs.Lower.{cond_some, slice_get_within, Token, Data, Ack, Marker, WireEnd, Entry, Run, Take, HostIn, Confirm, Turn, Machine, Network, Port, Own, OfNode, OfHost, receiver, HasFourLinks, process, port_took, acked, in_flight, handed_in, confirmed, does, next, after, is_at, step_of, step_shape, own_host, port_step, first_possible}
-use Rattle.tp_law_processes.specs.Inputs.{byte_in, bytes_in, TookIn}
+use Rattle.tp_law_processes.proofs.Lower.{cond_some, slice_get_within, Token, Data, Ack, Marker, WireEnd, Entry, Run, Take, HostIn, Confirm, Turn, Machine, Network, Port, Own, OfNode, OfHost, receiver, HasFourLinks, process, port_took, acked, in_flight, handed_in, confirmed, does, next, after, is_at, step_of, step_shape, own_host, port_step, first_possible, byte_in, bytes_in}
+use Rattle.tp_law_processes.specs.Inputs.{TookIn}
 use Rattle.tp_law_processes.proofs.Changes.{Becomes, Brings, after_holds, change_at, if_holds, none_holds, same_holds}
 use Rattle.tp_law_processes.proofs.Queue.{moved_then, unmoved}
 

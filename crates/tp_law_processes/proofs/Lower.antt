@@ -46,6 +46,8 @@ pub use Rattle.tp_law_device.proofs.Opens.{held_opened, reads_of}
 pub use Rattle.tp_law_device.proofs.ReadCuts.{ports_read}
 pub use Rattle.tp_law_device.proofs.Verdicts.{crash_opens}
 pub use Rattle.tp_book.specs.Ports.{fresh_value}
+pub use Rattle.tp_shared.proofs.BytesIn.{bytes_in-append, bytes_in-handed, bytes_in-other, bytes_in-same}
+pub use Rattle.tp_shared.specs.BytesIn.{byte_in, bytes_in}
 pub use Rattle.tp_shared.specs.HandedIn.{handed}
 pub use Rattle.tp_flush.proofs.Follows.{held_is, now_is, number_is, read_alone}
 pub use Rattle.tp_flush.specs.Follows.{Follows}
@@ -60,4 +62,5 @@ pub use Rattle.tp_run.specs.Outset.{outset_in}
 pub use Rattle.tp_run.specs.Ran.{IsCalled}
 pub use Rattle.tp_run.specs.Shown.{LeadsToOutputs}
 pub use Rattle.tp_run.specs.declared.fault.RunFault.{RunFault}
+pub use Rattle.tp_stream.specs.HandedFrom.{HasByte}
 pub use Rattle.tp_stream.specs.Put.{ArePut, AreShown, EachWith, Got, LeadsToBytes, PutPiece, port_or_fresh}

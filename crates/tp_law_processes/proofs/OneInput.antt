@@ -1,9 +1,9 @@
 -- If all inputs for a port are fronts of one list, all that the port got is a front of it.
-use Rattle.std.proofs.Common.{◌≡◌, ℕ, suc, ◌≤◌, ◌⊎◌, inl, inr, cond, List, [], ◌∷◌, ◌++◌, length, take, Some, Ok, refl, sym, ap, subst, ◌∙◌, arith, append-nil, append_assoc, ne_eqb}
+use Rattle.std.proofs.Common.{◌≡◌, ℕ, suc, ◌≤◌, ◌⊎◌, inl, inr, cond, List, [], ◌∷◌, ◌++◌, length, take, Option, Some, None, Ok, refl, sym, ap, subst, ◌∙◌, arith, append-nil, append_assoc, ne_eqb}
 use Rattle.std.specs.Prelude.{slice_get}
-use Rattle.tp_law_processes.proofs.Lower.{AllByRecursion, cases_eq, cases_lt, length-take-le, slice_get_within, Entry, Run, Take, HostIn, Confirm, Turn, NodeState, Network, State, Opened, next_of, verdict, port_or_fresh}
-use Rattle.tp_law_processes.specs.Inputs.{IsFrontOf, all_in, byte_in, bytes_in}
-use Rattle.tp_law_processes.specs.Processes.{AreInOrder, ByCompaction, ByReading, ByRun, ByStream, Did, GivesFrontOf, MayHand, Process, last_left}
+use Rattle.tp_law_processes.proofs.Lower.{AllByRecursion, cases_eq, cases_lt, length-take-le, slice_get_within, Entry, Run, Take, HostIn, Confirm, Turn, NodeState, Network, State, Opened, next_of, verdict, port_or_fresh, byte_in, bytes_in, HasByte}
+use Rattle.tp_law_processes.specs.Inputs.{IsFrontOf, all_in}
+use Rattle.tp_law_processes.specs.Processes.{AreInOrder, ByCompaction, ByReading, ByRun, ByStream, Did, GivesFrontOf, IsKnownFront, MayHand, Process, last_left}
 use Rattle.tp_law_processes.specs.OneHistory.{HasPlace, OneHistory, OpensAfter}
 use Rattle.tp_law_processes.proofs.Handing.{get_take, in_itself}
 
@@ -48,10 +48,17 @@ all_front all first p (e ∷ es) front each =
 
 -- ## By processes
 
+front_byte : (xs all : List ℕ) (at byte : ℕ) → IsFrontOf all xs → slice_get xs at ≡ Some byte → slice_get all at ≡ Some byte
+front_byte xs all at byte front there = get_take (length xs) at all byte (ap (λ ys. slice_get ys at) (sym front) ∙ there)
+
+known_byte : (input : Option (List ℕ)) (all : List ℕ) (at byte : ℕ) → IsKnownFront all input → HasByte input at byte → slice_get all at ≡ Some byte
+known_byte None all at byte front has = absurd front
+known_byte (Some xs) all at byte front has = front_byte xs all at byte front has
+
 given_byte : (start : Network NodeState) (old new : State) (did : Did start old new) (all : List ℕ) (port at byte : ℕ) → GivesFrontOf did port all → MayHand did port at byte → slice_get all at ≡ Some byte
 given_byte start old new (ByRun job input was now result clause) all port at byte front may =
-    get_take (length input) at all byte (ap (λ xs. slice_get xs at) (sym (front (sym may.0))) ∙ may.1)
-given_byte start old new (ByStream result was now clause) all port at byte front may = absurd front
+    front_byte input all at byte (front (sym may.0)) may.1
+given_byte start old new (ByStream inputs result was now clause) all port at byte front may = known_byte may.input.all all at byte (front may.place may.input may.there may.is) may.byte
 given_byte start old new (ByCompaction result clause) all port at byte front may = absurd may
 given_byte start old new (ByReading clause) all port at byte front may = absurd may
 

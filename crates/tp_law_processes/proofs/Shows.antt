@@ -1,10 +1,9 @@
 -- What the clauses of calls say of what was left, shown and handed in, in one form for all of them.
 use Rattle.std.proofs.Common.{◌≡◌, ℕ, zero, suc, ◌+◌, ◌-◌, ◌<◌, ◌≤◌, ◌⊎◌, inl, inr, List, [], ◌∷◌, ◌++◌, length, take, drop, Some, Result, Ok, Err, sym, ap, ◌∙◌, arith}
 use Rattle.std.specs.Prelude.{map, slice_get}
-use Rattle.tp_law_processes.proofs.Lower.{AllByRecursion, take_all, accepted, Entry, HostIn, NodeState, t414, Network, MayBe, LeavesOnly, State, moment, device_areas, Opened, next_of, verdict, RecoversTo, Follows, read_alone, RunFault, OutletValue, outset_in, IsCalled, LeadsToOutputs, OutputValue, given_of, AreShown, ArePut, EachWith, Got, LeadsToBytes, PutPiece, port_or_fresh}
-use Rattle.tp_law_processes.specs.Inputs.{bytes_in}
+use Rattle.tp_law_processes.proofs.Lower.{AllByRecursion, take_all, accepted, Entry, HostIn, NodeState, t414, Network, MayBe, LeavesOnly, State, moment, device_areas, Opened, next_of, verdict, RecoversTo, Follows, read_alone, RunFault, OutletValue, outset_in, IsCalled, LeadsToOutputs, OutputValue, given_of, AreShown, ArePut, EachWith, Got, LeadsToBytes, PutPiece, port_or_fresh, bytes_in, bytes_in-handed}
 use Rattle.tp_law_processes.specs.Processes.{ByCompaction, ByReading, ByRun, ByStream, Did, MayHand, Showing, answered, got_showings, journal_of, outlet_showings, piece_showings, set_out_at, showings, sink_showings}
-use Rattle.tp_law_processes.proofs.Handing.{handed_bytes, none_handed, run_hands}
+use Rattle.tp_law_processes.proofs.Handing.{byte_there, none_handed, run_hands}
 
 -- Bytes were shown while the device was in some state. They are outputs where some first entries lead, no fewer than the device had when it was
 -- opened. Whatever a crash leaves from then on has each of these entries.
@@ -101,12 +100,12 @@ facts start old new (ByRun job input was now (Err fault) clause) = record {
   stored = λ left may k below. absurd (omega (arith, below));
   shown = run_shows start clause.ran.journal job.port was now (Err fault) old new clause.called;
 }
-facts start old new (ByStream (Ok ended) was now clause) = record {
+facts start old new (ByStream inputs (Ok ended) was now clause) = record {
   leaves = clause.streamed.leaves;
   stored = λ left may k below. clause.streamed.stored left may;
   shown = stream_shows start clause.streamed.journal was now old new clause.outputs;
 }
-facts start old new (ByStream (Err fault) was now clause) = record {
+facts start old new (ByStream inputs (Err fault) was now clause) = record {
   leaves = clause.streamed.leaves;
   stored = λ left may k below. absurd (omega (arith, below));
   shown = stream_shows start clause.streamed.journal was now old new clause.outputs;
@@ -136,8 +135,10 @@ hands start old new (ByRun job input was now result clause) o reads k port byte 
     let H = clause.ran.handed o reads in
     let part = drop (next_of o) clause.ran.journal in
     run_hands start clause.ran.journal o job.port input was.taken now.taken H.entries H.hands part H.front k port byte there
-hands start old new (ByStream result was now clause) o reads k port byte there = tt
+hands start old new (ByStream inputs result was now clause) o reads k port byte there =
+    let part = drop (next_of o) clause.streamed.journal in
+    clause.fed o reads port (length (bytes_in port (take k part))) byte (byte_there port k byte part there)
 hands start old new (ByCompaction result clause) o reads k port byte there =
     let part = drop (next_of o) clause.journal in
-    none_handed port k byte part (sym (handed_bytes port part) ∙ ap (bytes_in port) (clause.untouched o reads)) there
+    none_handed port k byte part (sym (bytes_in-handed port part) ∙ ap (bytes_in port) (clause.untouched o reads)) there
 hands start old new (ByReading clause) o reads k port byte there = none_read (next_of o) k (HostIn port byte) there

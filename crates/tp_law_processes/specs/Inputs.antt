@@ -1,19 +1,7 @@
 -- All that a port has accepted, by the entries alone.
-use Rattle.std.specs.Prelude.{◌≡◌, ℕ, ◌==◌, if◌then◌else◌, List, [], ◌∷◌, ◌++◌, length, take, flat_map}
-use Rattle.tp_law_processes.specs.Lower.{Entry, Run, Take, HostIn, Confirm, Turn, NodeState, Network, Port, port_or_fresh}
+use Rattle.std.specs.Prelude.{◌≡◌, ℕ, List, ◌++◌, length, take}
+use Rattle.tp_law_processes.specs.Lower.{Entry, NodeState, Network, Port, bytes_in, port_or_fresh}
 use Rattle.tp_law_processes.specs.Queue.{Moved}
-
--- the byte that the host hands to port p by an entry, if it does
-abbrev pub byte_in : ℕ → Entry → List ℕ
-byte_in p (Run i k) = []
-byte_in p (Take line token) = []
-byte_in p (HostIn q x) = if q == p then x ∷ [] else []
-byte_in p (Confirm q upto) = []
-byte_in p (Turn i links k) = []
-
--- all bytes that the host hands to port p by entries, in order
-abbrev pub bytes_in : ℕ → List Entry → List ℕ
-bytes_in p es = flat_map (byte_in p) es
 
 -- all bytes that a port has got: what was pending there at the start, and then what entries hand to it
 abbrev pub all_in : Network NodeState → ℕ → List Entry → List ℕ

@@ -15,7 +15,9 @@ pub use Rattle.tp_model.specs.declared.entry.Entry.TheVariants.{Confirm, HostIn,
 pub use Rattle.tp_model.specs.declared.link.Token.TheVariants.{Ack, Data, Marker}
 pub use Rattle.tp_model.specs.declared.wire.WireEnd.{WireEnd}
 pub use Rattle.tp_recover.specs.Reading.{LeavesNothingNew}
+pub use Rattle.tp_shared.specs.BytesIn.{bytes_in}
 pub use Rattle.tp_flush.specs.Known.{Began}
+pub use Rattle.tp_stream_files.specs.Inputs.{GivenInput}
 pub use Rattle.tp_stream_files.specs.Outputs.{OutputValue, given_of}
 pub use Rattle.tp_stream_files.specs.declared.ending.Ended.{Ended}
 pub use Rattle.tp_run.specs.Compacted.{Compacted}
@@ -26,6 +28,7 @@ pub use Rattle.tp_run.specs.declared.compacting.CompactFault.{CompactFault}
 pub use Rattle.tp_run.specs.declared.compacting.Compaction.{Compaction}
 pub use Rattle.tp_run.specs.declared.fault.RunFault.{RunFault}
 pub use Rattle.tp_run.specs.declared.job.Job.{Job}
+pub use Rattle.tp_stream.specs.HandedFrom.{CameFrom}
 pub use Rattle.tp_stream.specs.Put.{AreShown, EachWith, Got, PutPiece, StreamedInto, port_or_fresh}
 pub use Rattle.tp_stream.specs.Standing.{from_of, stands_opened}
 pub use Rattle.tp_stream.specs.declared.fault.StreamFault.{StreamFault}

@@ -1,20 +1,20 @@
 -- Processes over one device, one after the other: what each did by the clause of its call, what it showed, and what it acknowledged.
-use Rattle.std.specs.Prelude.{◌≡◌, ◌≤◌, ◌⊎◌, ℕ, ◌+◌, List, [], ◌∷◌, ◌++◌, length, map, Some, Result, Ok, Err, slice_get}
+use Rattle.std.specs.Prelude.{◌≡◌, ◌≤◌, ◌⊎◌, ℕ, ◌+◌, List, [], ◌∷◌, ◌++◌, length, map, Option, Some, None, Result, Ok, Err, slice_get}
 use Rattle.std.proofs.Common.{inl, inr}
-use Rattle.tp_law_processes.specs.Lower.{Entry, NodeState, Network, IsSynced, MayHaveLeft, State, moment, Opened, next_of, LeavesNothingNew, CompactFault, Compaction, RunFault, Job, Compacted, OutletValue, outset_in, IsCalled, RanInto, OutputValue, given_of, Ended, StreamFault, AreShown, EachWith, Got, PutPiece, StreamedInto, from_of, stands_opened}
+use Rattle.tp_law_processes.specs.Lower.{Entry, NodeState, Network, IsSynced, MayHaveLeft, State, moment, Opened, next_of, LeavesNothingNew, CompactFault, Compaction, RunFault, Job, Compacted, OutletValue, outset_in, IsCalled, RanInto, OutputValue, given_of, Ended, StreamFault, CameFrom, GivenInput, AreShown, EachWith, Got, PutPiece, StreamedInto, from_of, stands_opened}
 use Rattle.tp_law_processes.specs.Inputs.{IsFrontOf}
 
 -- What a process did between two states of its device, by the clause of its call: a run, a stream, a compaction, or a call that wrote nothing.
 pub data Did (start : Network NodeState) (old new : State) : Type 0 where
   ByRun : (job : Job) → (input : List ℕ) → (was : OutletValue) → (now : OutletValue) → (result : Result ℕ RunFault) → RanInto start job input was now result old new → Did start old new
-  ByStream : (result : Result Ended StreamFault) → (was : List OutputValue) → (now : List OutputValue) → StreamedInto start result was now old new → Did start old new
+  ByStream : (inputs : List GivenInput) → (result : Result Ended StreamFault) → (was : List OutputValue) → (now : List OutputValue) → StreamedInto start inputs result was now old new → Did start old new
   ByCompaction : (result : Result Compaction CompactFault) → Compacted start result old new → Did start old new
   ByReading : LeavesNothingNew old new → Did start old new
 
 -- the journal that the clause speaks of
 abbrev pub journal_of : {start : Network NodeState} {old new : State} → Did start old new → List Entry
 journal_of (ByRun job input was now result clause) = clause.ran.journal
-journal_of (ByStream result was now clause) = clause.streamed.journal
+journal_of (ByStream inputs result was now clause) = clause.streamed.journal
 journal_of (ByCompaction result clause) = clause.journal
 journal_of (ByReading clause) = []
 
@@ -22,24 +22,30 @@ journal_of (ByReading clause) = []
 abbrev pub answered : {start : Network NodeState} {old new : State} → Did start old new → ℕ
 answered (ByRun job input was now (Ok next) clause) = next
 answered (ByRun job input was now (Err fault) clause) = 0
-answered (ByStream (Ok ended) was now clause) = ended.next
-answered (ByStream (Err fault) was now clause) = 0
+answered (ByStream inputs (Ok ended) was now clause) = ended.next
+answered (ByStream inputs (Err fault) was now clause) = 0
 answered (ByCompaction (Ok done) clause) = done.next
 answered (ByCompaction (Err fault) clause) = 0
 answered (ByReading clause) = 0
 
--- A process may hand a port this byte as the one at this position: its call was given an input for the port that has the byte there. A compaction and
--- a reading hand in nothing. Of a stream this isn't proved: any byte may come from it.
+-- A process may hand a port this byte as the one at this position: its call was given an input for the port that has the byte there. If that input
+-- isn't known as a whole, nothing is said of the byte. A compaction and a reading hand in nothing.
 abbrev pub MayHand : {start : Network NodeState} {old new : State} → Did start old new → (port at byte : ℕ) → Type 0
 MayHand (ByRun job input was now result clause) port at byte = (port ≡ job.port) × (slice_get input at ≡ Some byte)
-MayHand (ByStream result was now clause) port at byte = Unit {0}
+MayHand (ByStream inputs result was now clause) port at byte = CameFrom inputs port at byte
 MayHand (ByCompaction result clause) port at byte = ⊥
 MayHand (ByReading clause) port at byte = ⊥
 
--- each input for this port is a front of `all`; a stream's isn't counted, since nothing is proved of it
+-- the whole input is known, and a front of `all`
+abbrev pub IsKnownFront : List ℕ → Option (List ℕ) → Type 0
+IsKnownFront all None = ⊥
+IsKnownFront all (Some input) = IsFrontOf all input
+
+-- each input that a process was given for this port is a front of `all`
 abbrev pub GivesFrontOf : {start : Network NodeState} {old new : State} → Did start old new → (port : ℕ) (all : List ℕ) → Type 0
 GivesFrontOf (ByRun job input was now result clause) port all = job.port ≡ port → IsFrontOf all input
-GivesFrontOf (ByStream result was now clause) port all = ⊥
+GivesFrontOf (ByStream inputs result was now clause) port all =
+    (place : ℕ) (i : GivenInput) → slice_get inputs place ≡ Some i → i.port ≡ port → IsKnownFront all i.all
 GivesFrontOf (ByCompaction result clause) port all = Unit {0}
 GivesFrontOf (ByReading clause) port all = Unit {0}
 
@@ -83,7 +89,7 @@ sink_showings start journal was now old new (inr shown) =
 -- all that a process showed, as the clause of its call says
 abbrev pub showings : (start : Network NodeState) (old new : State) → Did start old new → List Showing
 showings start old new (ByRun job input was now result clause) = outlet_showings start clause.ran.journal job.port was now result old new clause.called
-showings start old new (ByStream result was now clause) = sink_showings start clause.streamed.journal was now old new clause.outputs
+showings start old new (ByStream inputs result was now clause) = sink_showings start clause.streamed.journal was now old new clause.outputs
 showings start old new (ByCompaction result clause) = []
 showings start old new (ByReading clause) = []
 

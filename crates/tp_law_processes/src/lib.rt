@@ -2,10 +2,10 @@
 #![tactic(auto)]
 
 ghost use Rattle.std.specs.Prelude.{◌≡◌, ◌≤◌, ℕ, List, [], length, Some, Ok, slice_get};
-ghost use Rattle.tp_law_processes.specs.Lower.{AllByRecursion, Entry, NodeState, t414, Network, Port, after, device_areas, Opened, next_of, verdict, World, BeginsFormatted, Began, port_or_fresh};
+ghost use Rattle.tp_law_processes.specs.Lower.{AllByRecursion, Entry, NodeState, t414, Network, Port, after, device_areas, Opened, next_of, verdict, World, BeginsFormatted, Began, bytes_in, port_or_fresh};
 ghost use Rattle.tp_law_processes.specs.Processes.{AreInOrder, GivesFrontOf, Process};
 ghost use Rattle.tp_law_processes.specs.OneHistory.{OneHistory};
-ghost use Rattle.tp_law_processes.specs.Inputs.{IsFrontOf, TookIn, all_in, bytes_in};
+ghost use Rattle.tp_law_processes.specs.Inputs.{IsFrontOf, TookIn, all_in};
 ghost use Rattle.tp_law_processes.specs.Outputs.{Grew, bytes_out};
 
 /// What comes out of a port is what the entries say, in order: after what it had there come the bytes of the entries. The first ones of all these are
@@ -29,8 +29,8 @@ pub fn ports_take_in()
 /// position on, part of what comes out of that port by this journal. If a process was done, all entries below the number that it answered are in the
 /// journal. What is left in the end stands for all of it. On a device that was formatted the first process begins with the number 0.
 ///
-/// Each byte that a run handed to a port is in its input, at the position that the port had come to. A compaction handed in nothing; of a stream nothing
-/// is said. So if no process was a stream, and all inputs for a port are fronts of one list, all that the port got is a front of that list.
+/// Each byte that a process handed to a port is in an input that it was given for the port, at the position that the port had come to. So if all inputs
+/// for a port are fronts of one list, all that the port got is a front of that list.
 pub fn processes_show_one_history()
     ensures history { (start : Network NodeState) (before : World NodeState) (was : List ℕ) → Began start before was
         → (processes : List (Process start)) → AreInOrder start was processes → OneHistory start was processes }
