@@ -4,13 +4,13 @@ pub mod JsonMaps
 pub mod NodeMaps
 pub mod Front
 pub mod Json
+pub mod Fields
 pub mod Names
 pub mod Shown
 pub mod JsonShow
 pub mod Opens
 pub mod Parts
 pub mod Entries
-pub mod JsonEntries
 pub mod JournalText
 pub mod EntriesTraced
 pub mod Done
