@@ -7,7 +7,6 @@ pub mod Json
 pub mod Fields
 pub mod Names
 pub mod Shown
-pub mod JsonShow
 pub mod Opens
 pub mod Parts
 pub mod Entries

@@ -1,8 +1,7 @@
 -- What `recover` and `show` do.
-use Rattle.std.specs.Prelude.{◌≡◌, ℕ, Bool, if◌then◌else◌, List, length, Option, Ok}
+use Rattle.std.specs.Prelude.{◌≡◌, ℕ, Bool, List, length, Option, Ok}
 use Rattle.tp_views.specs.Lower.{Appends, Moment, Sync, done, Opened, verdict, next_of}
 use Rattle.tp_views.specs.declared.shown.Front.{Front}
-use Rattle.tp_views.specs.JsonShow.{show_json}
 use Rattle.tp_views.specs.Shown.{shown_text, next_line}
 
 -- what is said of an opened device besides its network
@@ -22,7 +21,7 @@ recovered o = next_line (next_of o)
 
 -- what `show` prints of an opened device: its lines, or one line of JSON
 abbrev pub shown : Bool → Opened → List ℕ
-shown json o = if json then show_json (front_said o) o.now else shown_text (front_said o) o.now
+shown json o = shown_text json (front_said o) o.now
 
 -- The device opens, and exactly that text was printed.
 pub record Prints (text : Opened → List ℕ) (bytes : List ℕ) (was now : Option (List ℕ)) : Type 0 where

@@ -25,7 +25,6 @@ mod json_checked;
 mod json_maps;
 mod json_node;
 mod json_port;
-mod json_show;
 mod json_status;
 mod json_waits;
 mod line_rules;

@@ -7,7 +7,6 @@ ghost use Rattle.tp_views.specs.Opens.{IsUnwritten, Prints, front_said, recovere
 
 use crate::by_workers::open_steady_by;
 use crate::commands::{put, refuse};
-use crate::json_show::show_json;
 use crate::refusal::Refusal;
 use crate::shown::{Front, next_line, shown_text};
 use crate::steady::{Tried, open_steady};
@@ -58,12 +57,7 @@ fn recover<D: Disk, O: Write, R: Threads + Sync>(
 fn text_of(alloc: Global, json: bool, opened: &Opened) -> Result<String, AllocError>
     ensures { IfOk result (λ text. string_bytes text ≡ shown json opened.now) }
 {
-    let (front, network) = (front_of(opened), opened.network());
-    if json {
-        show_json(alloc, front, network)
-    } else {
-        shown_text(alloc, front, network)
-    }
+    shown_text(alloc, json, front_of(opened), opened.network())
 }
 
 fn show<D: Disk, O: Write>(

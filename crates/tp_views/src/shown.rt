@@ -1,9 +1,12 @@
 //! What is printed of a device.
 
-ghost use Rattle.std.specs.Prelude.{◌≡◌, ◌++◌, IfOk, OnOk, string_bytes, length, map};
-ghost use Rattle.tp_model.specs.Image.{halt_byte};
-ghost use Rattle.tp_views.specs.Shown.{area_number, head_line, next_line, node_line, node_lines, open_line, port_line, port_lines, shown_text};
+ghost use Rattle.std.specs.Prelude.{◌≡◌, ◌++◌, false, true, IfOk, OnOk, string_bytes, map};
+ghost use Rattle.tp_views.specs.Fields.{fields_text};
+ghost use Rattle.tp_views.specs.Shown.{area_number, head_line, next_line, node_fields, nodes_text, open_fields, port_fields, ports_text, shown_text};
 
+use crate::fields::Field::{After, InJson, Item, Named, Words};
+use crate::fields::{Value, push_fields};
+use crate::json::push;
 use crate::parts::Part::{Number, Text};
 use crate::parts::push_parts;
 use std::alloc::{AllocError, Global};
@@ -47,104 +50,122 @@ fn push_head(text: &mut String, nodes: usize, ports: usize, area: u64) -> Result
     )
 }
 
-fn push_open(text: &mut String, front: Front) -> Result<(), AllocError>
-    ensures { OnOk result (string_bytes text.new ≡ string_bytes text.old ++ open_line (area_number front.second) front.generation front.base front.entries front.next) }
+/// Appends what is said of the open area, and ends the line or the object. JSON has here how many bytes an area has.
+fn push_open(text: &mut String, json: bool, front: Front) -> Result<(), AllocError>
+    ensures { OnOk result (string_bytes text.new ≡ string_bytes text.old ++ fields_text json (open_fields front)) }
 {
     let open = area_number(front.second);
-    push_parts(
+    push_fields(
         text,
+        json,
         &[
-            Text("open "),
-            Number(open as u64),
-            Text(" generation "),
-            Number(front.generation),
-            Text(" base "),
-            Number(front.base),
-            Text(" entries "),
-            Number(front.entries as u64),
-            Text(" next "),
-            Number(front.next),
-            Text("\n"),
+            InJson("],\"area\":", Value::Number(front.area)),
+            After("open ", ",\"open\":", Value::Number(open as u64)),
+            Named("generation", Value::Number(front.generation)),
+            Named("base", Value::Number(front.base)),
+            Named("entries", Value::Number(front.entries as u64)),
+            Named("next", Value::Number(front.next)),
+            Words("\n", "}\n"),
         ],
     )
 }
 
-fn push_node(text: &mut String, number: usize, node: &Node) -> Result<(), AllocError>
-    ensures { OnOk result (string_bytes text.new ≡ string_bytes text.old ++ node_line number (halt_byte node.now.live.cpu.halt)) }
+fn push_node(text: &mut String, json: bool, number: usize, node: &Node) -> Result<(), AllocError>
+    ensures { OnOk result (string_bytes text.new ≡ string_bytes text.old ++ fields_text json (node_fields number node.now.live)) }
 {
     let halt = halt_byte(node.halt());
-    push_parts(
+    push_fields(
         text,
+        json,
         &[
-            Text("node "),
-            Number(number as u64),
-            Text(" halt "),
-            Number(halt as u64),
-            Text("\n"),
+            Item("node", number),
+            After(" halt ", "{\"halt\":", Value::Number(halt as u64)),
+            Words("\n", "}"),
         ],
     )
 }
 
-fn push_port(text: &mut String, number: usize, port: &HostPort) -> Result<(), AllocError>
-    ensures { OnOk result (string_bytes text.new ≡ string_bytes text.old ++ port_line number port.now.port) }
+fn push_port(
+    text: &mut String,
+    json: bool,
+    number: usize,
+    port: &HostPort,
+) -> Result<(), AllocError>
+    ensures { OnOk result (string_bytes text.new ≡ string_bytes text.old ++ fields_text json (port_fields number port.now.port)) }
 {
     let in_base = port.in_base();
     let pending = port.pending().len();
     let out_base = port.out_base();
     let unconfirmed = port.outputs().len();
-    push_parts(
+    push_fields(
         text,
+        json,
         &[
-            Text("port "),
-            Number(number as u64),
-            Text(" taken "),
-            Number(in_base),
-            Text(" pending "),
-            Number(pending as u64),
-            Text(" confirmed "),
-            Number(out_base),
-            Text(" unconfirmed "),
-            Number(unconfirmed as u64),
-            Text("\n"),
+            Item("port", number),
+            After(" taken ", "{\"taken\":", Value::Number(in_base)),
+            Named("pending", Value::Number(pending as u64)),
+            Named("confirmed", Value::Number(out_base)),
+            Named("unconfirmed", Value::Number(unconfirmed as u64)),
+            Words("\n", "}"),
         ],
     )
 }
 
-fn push_nodes(text: &mut String, nodes: &[Node]) -> Result<(), AllocError>
-    ensures { OnOk result (string_bytes text.new ≡ string_bytes text.old ++ node_lines 0 (map (λ node. node.live) nodes.now)) }
+fn push_nodes(text: &mut String, json: bool, nodes: &[Node]) -> Result<(), AllocError>
+    ensures { OnOk result (string_bytes text.new ≡ string_bytes text.old ++ nodes_text json 0 (map (λ node. node.live) nodes.now)) }
 {
     for (number, node) in nodes.iter().enumerate() {
-        push_node(text, number, node)?;
+        push_node(text, json, number, node)?;
     }
     Ok(())
 }
 
-fn push_ports(text: &mut String, ports: &[HostPort]) -> Result<(), AllocError>
-    ensures { OnOk result (string_bytes text.new ≡ string_bytes text.old ++ port_lines 0 (map (λ port. port.port) ports.now)) }
+fn push_ports(text: &mut String, json: bool, ports: &[HostPort]) -> Result<(), AllocError>
+    ensures { OnOk result (string_bytes text.new ≡ string_bytes text.old ++ ports_text json 0 (map (λ port. port.port) ports.now)) }
 {
     for (number, port) in ports.iter().enumerate() {
-        push_port(text, number, port)?;
+        push_port(text, json, number, port)?;
     }
     Ok(())
 }
 
-/// Appends all that is shown of a device.
-fn push_shown(text: &mut String, front: Front, now: &FlatNetwork) -> Result<(), AllocError>
-    ensures { OnOk result (string_bytes text.new ≡ string_bytes text.old ++ shown_text front now.now) }
+/// Appends the lines of a device.
+fn push_lines(text: &mut String, front: Front, now: &FlatNetwork) -> Result<(), AllocError>
+    ensures { OnOk result (string_bytes text.new ≡ string_bytes text.old ++ shown_text false front now.now) }
 {
     let (nodes, ports) = (now.nodes(), now.ports());
     push_head(text, nodes.len(), ports.len(), front.area)?;
-    push_open(text, front)?;
-    push_nodes(text, nodes)?;
-    push_ports(text, ports)
+    push_open(text, false, front)?;
+    push_nodes(text, false, nodes)?;
+    push_ports(text, false, ports)
 }
 
-/// Gives all that is shown of a device.
-pub fn shown_text(alloc: Global, front: Front, now: &FlatNetwork) -> Result<String, AllocError>
-    ensures { IfOk result (λ text. string_bytes text ≡ shown_text front now.now) }
+/// Appends the object of a device.
+fn push_object(text: &mut String, front: Front, now: &FlatNetwork) -> Result<(), AllocError>
+    ensures { OnOk result (string_bytes text.new ≡ string_bytes text.old ++ shown_text true front now.now) }
+{
+    push(text, "{\"nodes\":[")?;
+    push_nodes(text, true, now.nodes())?;
+    push(text, "],\"ports\":[")?;
+    push_ports(text, true, now.ports())?;
+    push_open(text, true, front)
+}
+
+/// Gives all that is shown of a device, as JSON or not.
+pub fn shown_text(
+    alloc: Global,
+    json: bool,
+    front: Front,
+    now: &FlatNetwork,
+) -> Result<String, AllocError>
+    ensures { IfOk result (λ text. string_bytes text ≡ shown_text json front now.now) }
 {
     let mut text = String::new(alloc);
-    push_shown(&mut text, front, now)?;
+    if json {
+        push_object(&mut text, front, now)?;
+    } else {
+        push_lines(&mut text, front, now)?;
+    }
     Ok(text)
 }
 
