@@ -70,10 +70,9 @@ pub use Rattle.tp_words.specs.declared.trace_args.ImageTrace.{ImageTrace}
 pub use Rattle.tp_words.specs.declared.views.TracePart.{TracePart}
 pub use Rattle.tp_words.specs.declared.views.View.{View}
 pub use Rattle.tp_views.specs.Attempt.{PrintsTrial}
-pub use Rattle.tp_views.specs.Checked.{wanted_area}
+pub use Rattle.tp_views.specs.Checked.{topology_said, wanted_area}
 pub use Rattle.tp_views.specs.EntriesTraced.{device_text, device_traced}
 pub use Rattle.tp_views.specs.Front.{AppendsFront, PrintsFront}
-pub use Rattle.tp_views.specs.JsonChecked.{topology_said}
 pub use Rattle.tp_views.specs.JsonStatus.{look_text}
 pub use Rattle.tp_views.specs.Looks.{StatusTells}
 pub use Rattle.tp_views.specs.Maps.{Maps, Row, no_maps, read_map, rows_of}

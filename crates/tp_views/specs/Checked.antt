@@ -1,6 +1,7 @@
--- What `check` prints of a topology.
-use Rattle.std.specs.Prelude.{ℕ, ◌+◌, ◌*◌, List, [], ◌∷◌, ◌++◌, Option, Some, None, length, codes}
-use Rattle.tp_views.specs.Lower.{decimal, Turns, AREA_HEAD_BYTES, version_byte, version_for, cut_length, entry_room, reserve, Topology, line_count}
+-- What `check` prints of a topology: lines, or an object of JSON on a line.
+use Rattle.std.specs.Prelude.{ℕ, ◌+◌, ◌*◌, Bool, List, [], ◌∷◌, ◌++◌, Option, Some, None, length, codes}
+use Rattle.tp_views.specs.Lower.{Turns, AREA_HEAD_BYTES, version_byte, version_for, cut_length, entry_room, reserve, Topology, line_count}
+use Rattle.tp_views.specs.Fields.{Field, Named, After, Words, Comma, Number, Name, fields_text}
 use Rattle.tp_views.specs.Names.{form_name}
 
 -- how many bytes an area needs for entries that any process may make, each in a group of its own
@@ -16,30 +17,30 @@ abbrev pub wanted_area : Topology → Option ℕ → ℕ
 wanted_area t None = default_area t
 wanted_area t (Some area) = area
 
--- the line of how many nodes and ports there are, which version of the head would be written, and the form of the areas
-abbrev pub shape_line : ℕ → ℕ → ℕ → List ℕ
-shape_line nodes ports version =
-    codes "nodes " ++ (decimal nodes ++ (codes " ports " ++ (decimal ports ++ (codes " version " ++ (decimal version ++ (codes " form " ++ (form_name Turns ++ 10 ∷ [])))))))
+-- how many nodes and ports there are, which version of the head would be written, and the form of the areas
+abbrev pub shape_fields : ℕ → ℕ → ℕ → List Field
+shape_fields nodes ports version =
+    After (codes "nodes ") (codes "{\"nodes\":") (Number nodes) ∷ Named (codes "ports") (Number ports) ∷ Named (codes "version") (Number version)
+    ∷ Named (codes "form") (Name (form_name Turns)) ∷ []
 
--- the line of the least area
-abbrev pub least_line : ℕ → List ℕ
-least_line area = codes "least area " ++ (decimal area ++ 10 ∷ [])
+-- how many bytes an area has at least, and by default
+abbrev pub size_fields : ℕ → ℕ → List Field
+size_fields least default =
+    After (codes "\nleast area ") (codes ",\"least_area\":") (Number least) ∷ After (codes "\ndefault area ") (codes ",\"default_area\":") (Number default)
+    ∷ Words (codes "\n") (codes ",\"areas\":[") ∷ []
 
--- the line of the area by default
-abbrev pub default_line : ℕ → List ℕ
-default_line area = codes "default area " ++ (decimal area ++ 10 ∷ [])
+-- the area whose journal has room for this many entries, after `before` other areas
+abbrev pub area_fields : ℕ → ℕ → ℕ → List Field
+area_fields before entries area =
+    Comma before ∷ After (codes "entries ") (codes "{\"entries\":") (Number entries) ∷ Named (codes "area") (Number area) ∷ Words (codes "\n") (codes "}") ∷ []
 
--- the line of the area whose journal has room for this many entries
-abbrev pub area_line : ℕ → ℕ → List ℕ
-area_line entries area = codes "entries " ++ (decimal entries ++ (codes " area " ++ (decimal area ++ 10 ∷ [])))
+-- one for each of several journals
+abbrev pub areas_text : Bool → Topology → ℕ → List ℕ → List ℕ
+areas_text json t before [] = []
+areas_text json t before (entries ∷ journals) = fields_text json (area_fields before entries (area_for t entries)) ++ areas_text json t (before + 1) journals
 
--- a line for each of several journals
-abbrev pub area_lines : Topology → List ℕ → List ℕ
-area_lines t [] = []
-area_lines t (entries ∷ journals) = area_line entries (area_for t entries) ++ area_lines t journals
-
--- All that is printed of a topology.
-abbrev pub checked_text : Topology → List ℕ
-checked_text t =
-    shape_line (length t.pages) t.ports (version_byte (version_for t))
-    ++ (least_line (area_for t 1) ++ (default_line (default_area t) ++ area_lines t (4096 ∷ 65536 ∷ 1048576 ∷ [])))
+-- All that is printed of a topology, as JSON or not.
+abbrev pub topology_said : Bool → Topology → List ℕ
+topology_said json t =
+    fields_text json (shape_fields (length t.pages) t.ports (version_byte (version_for t))) ++ (fields_text json (size_fields (area_for t 1) (default_area t))
+    ++ (areas_text json t 0 (4096 ∷ 65536 ∷ 1048576 ∷ []) ++ fields_text json (Words [] (codes "]}\n") ∷ [])))

@@ -32,7 +32,6 @@ pub mod DotWaits
 pub mod JsonWaits
 pub mod Views
 pub mod Checked
-pub mod JsonChecked
 pub mod Looks
 pub mod Steady
 pub mod Attempt

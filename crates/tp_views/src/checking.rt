@@ -2,16 +2,16 @@
 
 ghost use Rattle.std.specs.Prelude.{◌≡◌, ◌⊎◌, ◌≤◌, ◌++◌, IfOk, IsErr, IsSome, None, OnOk, map, string_bytes, true};
 ghost use Rattle.tp_views.specs.Lower.{Appends, start_of, is_topology};
-ghost use Rattle.tp_views.specs.Checked.{area_for, area_line, area_lines, checked_text, default_area, default_line, least_line, shape_line};
+ghost use Rattle.tp_views.specs.Checked.{area_fields, area_for, areas_text, default_area, shape_fields, size_fields, topology_said};
+ghost use Rattle.tp_views.specs.Fields.{fields_text};
 ghost use Rattle.tp_views.specs.Front.{AppendsFront};
-ghost use Rattle.tp_views.specs.JsonChecked.{topology_said};
 
 use crate::areas::default_area;
 use crate::commands::{put, refuse};
+use crate::fields::Field::{After, Comma, Named, Words};
+use crate::fields::Value::{Name, Number};
+use crate::fields::push_fields;
 use crate::formats::{form_name, version_number};
-use crate::json_checked::checked_json;
-use crate::parts::Part::{Number, Text};
-use crate::parts::push_parts;
 use crate::refusal::Refusal;
 use std::alloc::{AllocError, Global};
 use std::io::Write;
@@ -34,86 +34,99 @@ fn check_images(alloc: Global, topology: &Topology, images: &[Vec<u8>]) -> Resul
 }
 
 /// How many entries the journals have room for that are told an area for.
-pub(crate) const JOURNALS: [u32; 3] = [4_096, 65_536, 1_048_576];
+const JOURNALS: [u32; 3] = [4_096, 65_536, 1_048_576];
 
 /// Appends how many nodes and ports there are, which version of the head would be written, and the form of the areas.
-fn push_shape(text: &mut String, nodes: usize, ports: usize, version: u8) -> Result<(), AllocError>
-    ensures { OnOk result (string_bytes text.new ≡ string_bytes text.old ++ shape_line nodes ports version) }
+fn push_shape(
+    text: &mut String,
+    json: bool,
+    nodes: usize,
+    ports: usize,
+    version: u8,
+) -> Result<(), AllocError>
+    ensures { OnOk result (string_bytes text.new ≡ string_bytes text.old ++ fields_text json (shape_fields nodes ports version)) }
 {
-    push_parts(
+    push_fields(
         text,
+        json,
         &[
-            Text("nodes "),
-            Number(nodes as u64),
-            Text(" ports "),
-            Number(ports as u64),
-            Text(" version "),
-            Number(version as u64),
-            Text(" form "),
-            Text(form_name(Form::Turns)),
-            Text("\n"),
+            After("nodes ", "{\"nodes\":", Number(nodes as u64)),
+            Named("ports", Number(ports as u64)),
+            Named("version", Number(version as u64)),
+            Named("form", Name(form_name(Form::Turns))),
         ],
     )
 }
 
-/// Appends how large an area must be at least.
-fn push_least(text: &mut String, topology: &Topology) -> Result<(), AllocError>
+/// Appends how large an area must be at least, and how large it is by default.
+fn push_sizes(text: &mut String, json: bool, topology: &Topology) -> Result<(), AllocError>
     requires { is_topology topology.now ≡ true }
-    ensures { OnOk result (string_bytes text.new ≡ string_bytes text.old ++ least_line (area_for topology.now 1)) }
+    ensures { OnOk result (string_bytes text.new ≡ string_bytes text.old ++ fields_text json (size_fields (area_for topology.now 1) (default_area topology.now))) }
 {
     let least = area_for(topology, 1);
-    push_parts(text, &[Text("least area "), Number(least), Text("\n")])
-}
-
-/// Appends how large an area is by default.
-fn push_default(text: &mut String, topology: &Topology) -> Result<(), AllocError>
-    ensures { OnOk result (string_bytes text.new ≡ string_bytes text.old ++ default_line (default_area topology.now)) }
-{
-    let area = default_area(topology);
-    push_parts(text, &[Text("default area "), Number(area), Text("\n")])
-}
-
-/// Appends how large an area must be so that its journal has room for `entries` entries.
-fn push_area(text: &mut String, topology: &Topology, entries: u32) -> Result<(), AllocError>
-    requires { is_topology topology.now ≡ true }
-    ensures { OnOk result (string_bytes text.new ≡ string_bytes text.old ++ area_line entries (area_for topology.now entries)) }
-{
-    let area = area_for(topology, u64::from(entries));
-    push_parts(
+    let default = default_area(topology);
+    push_fields(
         text,
+        json,
         &[
-            Text("entries "),
-            Number(entries as u64),
-            Text(" area "),
-            Number(area),
-            Text("\n"),
+            After("\nleast area ", ",\"least_area\":", Number(least)),
+            After("\ndefault area ", ",\"default_area\":", Number(default)),
+            Words("\n", ",\"areas\":["),
         ],
     )
 }
 
-/// Appends a line for each of several journals.
-fn push_areas(text: &mut String, topology: &Topology, journals: &[u32]) -> Result<(), AllocError>
-    requires { is_topology topology.now ≡ true }
-    ensures { OnOk result (string_bytes text.new ≡ string_bytes text.old ++ area_lines topology.now journals.now) }
+/// Appends an area whose journal has room for `entries` entries, after `before` other areas.
+fn push_size(
+    text: &mut String,
+    json: bool,
+    before: usize,
+    entries: u32,
+    area: u64,
+) -> Result<(), AllocError>
+    ensures { OnOk result (string_bytes text.new ≡ string_bytes text.old ++ fields_text json (area_fields before entries area)) }
 {
-    for entries in journals {
-        push_area(text, topology, *entries)?;
-    }
-    Ok(())
+    push_fields(
+        text,
+        json,
+        &[
+            Comma(before),
+            After("entries ", "{\"entries\":", Number(entries as u64)),
+            Named("area", Number(area)),
+            Words("\n", "}"),
+        ],
+    )
 }
 
-fn checked_text(alloc: Global, topology: &Topology) -> Result<String, AllocError>
+/// Appends how large an area must be so that its journal has room for `entries` entries, after `before` other areas.
+fn push_area(
+    text: &mut String,
+    json: bool,
+    before: usize,
+    topology: &Topology,
+    entries: u32,
+) -> Result<(), AllocError>
     requires { is_topology topology.now ≡ true }
-    ensures { IfOk result (λ text. string_bytes text ≡ checked_text topology.now) }
+    ensures { OnOk result (string_bytes text.new ≡ string_bytes text.old ++ fields_text json (area_fields before entries (area_for topology.now entries))) }
 {
-    let (nodes, ports) = (topology.pages().len(), topology.port_count());
-    let version = version_number(version_for(topology));
-    let mut text = String::new(alloc);
-    push_shape(&mut text, nodes, ports, version)?;
-    push_least(&mut text, topology)?;
-    push_default(&mut text, topology)?;
-    push_areas(&mut text, topology, &JOURNALS)?;
-    Ok(text)
+    let area = area_for(topology, u64::from(entries));
+    push_size(text, json, before, entries, area)
+}
+
+/// Appends an area for each of several journals.
+fn push_areas(
+    text: &mut String,
+    json: bool,
+    topology: &Topology,
+    journals: &[u32],
+) -> Result<(), AllocError>
+    requires { is_topology topology.now ≡ true }
+    ensures { OnOk result (string_bytes text.new ≡ string_bytes text.old ++ areas_text json topology.now 0 journals.now) }
+{
+    for (before, entries) in journals.iter().enumerate() {
+        push_area(text, json, before, topology, *entries)?;
+    }
+    Ok(())
 }
 
 /// Gives what is said of a topology, as JSON or not.
@@ -121,11 +134,14 @@ fn topology_said(alloc: Global, topology: &Topology, json: bool) -> Result<Strin
     requires { is_topology topology.now ≡ true }
     ensures { IfOk result (λ text. string_bytes text ≡ topology_said json topology.now) }
 {
-    if json {
-        checked_json(alloc, topology)
-    } else {
-        checked_text(alloc, topology)
-    }
+    let (nodes, ports) = (topology.pages().len(), topology.port_count());
+    let version = version_number(version_for(topology));
+    let mut text = String::new(alloc);
+    push_shape(&mut text, json, nodes, ports, version)?;
+    push_sizes(&mut text, json, topology)?;
+    push_areas(&mut text, json, topology, &JOURNALS)?;
+    push_fields(&mut text, json, &[Words("", "]}\n")])?;
+    Ok(text)
 }
 
 /// Prints what is said of a topology.

@@ -21,7 +21,6 @@ mod image_rules;
 mod inside;
 mod journal;
 mod json;
-mod json_checked;
 mod json_maps;
 mod json_node;
 mod json_port;
