@@ -1,8 +1,0 @@
-use Rattle.tp_views.proofs.Joined.{joined_four, on_ok}
-use Rattle.tp_views.proofs.node_done.push_link_lines.Goals as goal
-
-pub returns : goal.returns
-returns c =
-    on_ok _ _ c.push_link_line-4.result
-    (λ last. joined_four _ _ _ _ _ _ _ _ _ c.in_ok-push_link_line.ensures c.in_ok-push_link_line-2.ensures c.in_ok-push_link_line-3.ensures last)
-    c.push_link_line-4.ensures
