@@ -16,3 +16,9 @@ pub joined_four : (start a b c d first second third now : List ℕ) → first �
 joined_four start a b c d first second third now ia ib ic id =
     id ∙ ap (λ x. x ++ d) ic ∙ append_assoc second c d ∙ ap (λ x. x ++ (c ++ d)) ib ∙ append_assoc first b (c ++ d) ∙ ap (λ x. x ++ (b ++ (c ++ d))) ia
     ∙ append_assoc start a (b ++ (c ++ d))
+
+-- five parts
+pub joined_five : (start a b c d e first second third fourth now : List ℕ) → first ≡ start ++ a → second ≡ first ++ b → third ≡ second ++ c → fourth ≡ third ++ d → now ≡ fourth ++ e
+    → now ≡ start ++ (a ++ (b ++ (c ++ (d ++ e))))
+joined_five start a b c d e first second third fourth now ia ib ic id ie =
+    joined_four first b c d e second third fourth now ib ic id ie ∙ ap (λ x. x ++ (b ++ (c ++ (d ++ e)))) ia ∙ append_assoc start a (b ++ (c ++ (d ++ e)))

@@ -18,7 +18,6 @@ pub mod TimeOfDay
 pub mod Status
 pub mod JsonStatus
 pub mod NodeText
-pub mod JsonNode
 pub mod JsonPort
 pub mod Scene
 pub mod Why

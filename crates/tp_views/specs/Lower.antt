@@ -30,7 +30,7 @@ pub use Rattle.tp_model.specs.Topology.{Topology, line_count}
 unfoldable pub use Rattle.tp_model.specs.Topology.{is_topology}
 pub use Rattle.tp_model.specs.TopologyWords.{is_digit}
 pub use Rattle.tp_model.specs.Turn.{by_link}
-pub use Rattle.tp_model.specs.Word.{bit, most_neg}
+pub use Rattle.tp_model.specs.Word.{most_neg}
 pub use Rattle.tp_model.specs.declared.areas.TwoAreas.{TwoAreas}
 pub use Rattle.tp_model.specs.declared.entry.Entry.{Entry}
 pub use Rattle.tp_model.specs.declared.entry.Entry.TheVariants.{Confirm, HostIn, Run, Take, Turn}

@@ -2,7 +2,7 @@
 use Rattle.std.specs.Prelude.{◌≡◌, ℕ, zero, suc, ◌+◌, ◌/◌, ◌==◌, Bool, false, true, not, ◌||◌, if◌then◌else◌, List, [], ◌∷◌, ◌++◌, length, bytes_eq, Option, Some, None, is_some, codes}
 use Rattle.tp_views.specs.Lower.{u32_at, NodeState, hex_byte, hex_word, instruction_at, memory_of, TraceLines, Every, Sending}
 use Rattle.tp_views.specs.Maps.{Row, spot_text}
-use Rattle.tp_views.specs.NodeText.{cpu_lines}
+use Rattle.tp_views.specs.NodeText.{cpu_text}
 use Rattle.tp_views.specs.declared.stops.Range.{Range}
 use Rattle.tp_views.specs.declared.stops.Stops.{Stops}
 
@@ -59,7 +59,7 @@ memory_line (Some range) node = codes "memory " ++ (hex_word range.from ++ (byte
 -- the registers and queues, the workspace, and the range
 abbrev pub state_text : List Row → Stops → NodeState → List ℕ
 state_text rows stops node =
-    cpu_lines rows node.cpu ++ (workspace_line node.cpu.wptr (memory_of node node.cpu.wptr 32) ++ memory_line stops.watch node)
+    cpu_text false rows node.cpu ++ (workspace_line node.cpu.wptr (memory_of node node.cpu.wptr 32) ++ memory_line stops.watch node)
 
 -- that, if it is printed
 abbrev pub state_if : List Row → Stops → NodeState → List ℕ

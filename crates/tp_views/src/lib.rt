@@ -22,7 +22,6 @@ mod inside;
 mod journal;
 mod json;
 mod json_maps;
-mod json_node;
 mod json_port;
 mod json_status;
 mod json_waits;

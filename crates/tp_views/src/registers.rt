@@ -1,15 +1,18 @@
-//! What is printed of a node: its registers, queues and link ends, addresses in hexadecimal.
+//! What is printed of a node: its registers, queues and link ends. Lines have words in hexadecimal, JSON has numbers.
 
 ghost use Rattle.std.specs.Prelude.{◌≡◌, ◌++◌, IfOk, OnOk, string_bytes};
 ghost use Rattle.tp_model.specs.Image.{node_at};
 ghost use Rattle.tp_views.specs.Maps.{rows_seen};
-ghost use Rattle.tp_views.specs.NodeText.{cpu_lines, held_line, idle_line, input_end_line, input_lines, node_as_lines, node_text, number_line, output_line, output_lines, pointer_line, queue_line, stack_line, state_line, working_line};
+ghost use Rattle.tp_views.specs.Fields.{fields_text};
+ghost use Rattle.tp_views.specs.NodeText.{cpu_text, enabled_fields, ends_text, held_fields, idle_fields, input_fields, inputs_text, node_of_parts, node_text, number_fields, output_fields, outputs_text, pointers_text, queue_fields, queues_text, spot_of, stack_fields, state_fields, working_fields};
 
+use crate::fields::Field::{After, Item, Named, Words};
+use crate::fields::Value::{Bit, Byte, Name, Number, Word};
+use crate::fields::push_fields;
 use crate::formats::halt_name;
 use crate::image_fields::{inputs_in, outputs_in, pages_in};
+use crate::json_maps::push_spot_fields;
 use crate::maps::{MapRow, push_spot};
-use crate::parts::Part::{Byte, Number, Text, Word};
-use crate::parts::push_parts;
 use std::alloc::{AllocError, Global};
 use tp_model::{Cpu, Fault, InEnd, OutEnd, Queue, Regs, State, Transfer};
 use tp_node::halt_byte;
@@ -17,226 +20,273 @@ use tp_trace::{cpu_in, state_name};
 
 fn push_number(
     text: &mut String,
+    json: bool,
     number: u64,
     pages: usize,
     halt: Option<Fault>,
 ) -> Result<(), AllocError>
-    ensures { OnOk result (string_bytes text.new ≡ string_bytes text.old ++ number_line number pages halt) }
+    ensures { OnOk result (string_bytes text.new ≡ string_bytes text.old ++ fields_text json (number_fields number pages halt)) }
 {
     let (code, name) = (halt_byte(halt), halt_name(halt));
-    push_parts(
+    push_fields(
         text,
+        json,
         &[
-            Text("node "),
-            Number(number),
-            Text(" pages "),
-            Number(pages as u64),
-            Text(" halt "),
-            Number(code as u64),
-            Text(" "),
-            Text(name),
-            Text("\n"),
+            After("node ", "{\"node\":", Number(number)),
+            Named("pages", Number(pages as u64)),
+            Named("halt", Number(code as u64)),
+            After(" ", ",\"halt_name\":", Name(name)),
+            Words("\n", ""),
         ],
     )
+}
+
+/// Appends what a map says of an address.
+fn push_spot_of(
+    text: &mut String,
+    json: bool,
+    rows: &[MapRow<'_>],
+    address: u32,
+) -> Result<(), AllocError>
+    ensures { OnOk result (string_bytes text.new ≡ string_bytes text.old ++ spot_of json (rows_seen rows.now) address) }
+{
+    if json {
+        push_spot_fields(text, rows, address)
+    } else {
+        push_spot(text, "", rows, address)
+    }
 }
 
 /// Appends the addresses at which a processor is, and what its map says of them.
 fn push_pointers(
     text: &mut String,
+    json: bool,
     rows: &[MapRow<'_>],
     iptr: u32,
     wptr: u32,
 ) -> Result<(), AllocError>
-    ensures { OnOk result (string_bytes text.new ≡ string_bytes text.old ++ pointer_line (rows_seen rows.now) iptr wptr) }
+    ensures { OnOk result (string_bytes text.new ≡ string_bytes text.old ++ pointers_text json (rows_seen rows.now) iptr wptr) }
 {
-    push_parts(text, &[Text("Iptr "), Word(iptr)])?;
-    push_spot(text, "", rows, iptr)?;
-    push_parts(text, &[Text(" Wptr "), Word(wptr), Text("\n")])
+    push_fields(text, json, &[After("Iptr ", ",\"iptr\":", Word(iptr))])?;
+    push_spot_of(text, json, rows, iptr)?;
+    push_fields(
+        text,
+        json,
+        &[After(" Wptr ", ",\"wptr\":", Word(wptr)), Words("\n", "")],
+    )
 }
 
-fn push_stack(text: &mut String, regs: Regs) -> Result<(), AllocError>
-    ensures { OnOk result (string_bytes text.new ≡ string_bytes text.old ++ stack_line regs.a regs.b regs.c) }
+fn push_stack(text: &mut String, json: bool, regs: Regs) -> Result<(), AllocError>
+    ensures { OnOk result (string_bytes text.new ≡ string_bytes text.old ++ fields_text json (stack_fields regs.a regs.b regs.c)) }
 {
-    push_parts(
+    push_fields(
         text,
+        json,
         &[
-            Text("A "),
-            Word(regs.a),
-            Text(" B "),
-            Word(regs.b),
-            Text(" C "),
-            Word(regs.c),
-            Text("\n"),
+            After("A ", ",\"a\":", Word(regs.a)),
+            After(" B ", ",\"b\":", Word(regs.b)),
+            After(" C ", ",\"c\":", Word(regs.c)),
+            Words("\n", ""),
         ],
     )
 }
 
-fn push_queue(text: &mut String, name: &str, queue: Queue) -> Result<(), AllocError>
-    ensures { OnOk result (string_bytes text.new ≡ string_bytes text.old ++ queue_line name.now queue) }
+/// Appends a queue, after its name in a line and in JSON.
+fn push_queue<'a>(
+    text: &mut String,
+    json: bool,
+    line: &'a str,
+    in_json: &'a str,
+    queue: Queue,
+) -> Result<(), AllocError>
+    ensures { OnOk result (string_bytes text.new ≡ string_bytes text.old ++ fields_text json (queue_fields line.now in_json.now queue)) }
 {
-    push_parts(
+    push_fields(
         text,
+        json,
         &[
-            Text(name),
-            Text(" front "),
-            Word(queue.front),
-            Text(" back "),
-            Word(queue.back),
-            Text("\n"),
+            After(line, in_json, Word(queue.front)),
+            Named("back", Word(queue.back)),
+            Words("\n", "}"),
         ],
     )
 }
 
-fn push_state(text: &mut String, error: bool, state: State, slice: u16) -> Result<(), AllocError>
-    ensures { OnOk result (string_bytes text.new ≡ string_bytes text.old ++ state_line error state slice) }
+fn push_state(
+    text: &mut String,
+    json: bool,
+    error: bool,
+    state: State,
+    slice: u16,
+) -> Result<(), AllocError>
+    ensures { OnOk result (string_bytes text.new ≡ string_bytes text.old ++ fields_text json (state_fields error state slice)) }
 {
-    let (flag, name) = (u8::from(error), state_name(state));
-    push_parts(
+    let name = state_name(state);
+    push_fields(
         text,
+        json,
         &[
-            Text("error "),
-            Number(flag as u64),
-            Text(" state "),
-            Text(name),
-            Text(" slice "),
-            Number(slice as u64),
-            Text("\n"),
+            After("error ", ",\"error\":", Bit(error)),
+            Named("state", Name(name)),
+            Named("slice", Number(slice as u64)),
+            Words("\n", ""),
         ],
     )
 }
 
-/// Appends the lines of a processor.
-pub(crate) fn push_cpu(text: &mut String, rows: &[MapRow<'_>], cpu: &Cpu) -> Result<(), AllocError>
-    ensures { OnOk result (string_bytes text.new ≡ string_bytes text.old ++ cpu_lines (rows_seen rows.now) cpu.now) }
+/// Appends the queues of a processor, its Error flag, what runs, and its slice count.
+fn push_queues(text: &mut String, json: bool, cpu: &Cpu) -> Result<(), AllocError>
+    ensures { OnOk result (string_bytes text.new ≡ string_bytes text.old ++ queues_text json cpu.now) }
 {
-    push_pointers(text, rows, cpu.iptr, cpu.wptr)?;
-    push_stack(text, cpu.regs)?;
-    push_queue(text, "high", cpu.high)?;
-    push_queue(text, "low", cpu.low)?;
-    push_state(text, cpu.regs.error, cpu.state, cpu.slice)
+    push_queue(text, json, "high front ", ",\"high\":{\"front\":", cpu.high)?;
+    push_queue(text, json, "low front ", ",\"low\":{\"front\":", cpu.low)?;
+    push_state(text, json, cpu.regs.error, cpu.state, cpu.slice)
 }
 
-/// Appends the line of an end at which nothing is under way.
-fn push_idle(text: &mut String, side: &str, link: usize) -> Result<(), AllocError>
-    ensures { OnOk result (string_bytes text.new ≡ string_bytes text.old ++ idle_line side.now link) }
+/// Appends what is printed of a processor.
+pub(crate) fn push_cpu(
+    text: &mut String,
+    json: bool,
+    rows: &[MapRow<'_>],
+    cpu: &Cpu,
+) -> Result<(), AllocError>
+    ensures { OnOk result (string_bytes text.new ≡ string_bytes text.old ++ cpu_text json (rows_seen rows.now) cpu.now) }
 {
-    push_parts(
+    push_pointers(text, json, rows, cpu.iptr, cpu.wptr)?;
+    push_stack(text, json, cpu.regs)?;
+    push_queues(text, json, cpu)
+}
+
+/// Appends an end at which nothing is under way.
+fn push_idle(text: &mut String, json: bool, side: &str, link: usize) -> Result<(), AllocError>
+    ensures { OnOk result (string_bytes text.new ≡ string_bytes text.old ++ fields_text json (idle_fields side.now link)) }
+{
+    push_fields(
         text,
-        &[Text(side), Text(" "), Number(link as u64), Text(" idle\n")],
+        json,
+        &[
+            Item(side, link),
+            After(" ", "{\"state\":", Name("idle")),
+            Words("\n", "}"),
+        ],
     )
 }
 
-/// Appends the line of an end at which a process waits.
+/// Appends an end at which a process waits.
 fn push_working<'a>(
     text: &mut String,
+    json: bool,
     side: &'a str,
     link: usize,
     what: &'a str,
     transfer: Transfer,
 ) -> Result<(), AllocError>
-    ensures { OnOk result (string_bytes text.new ≡ string_bytes text.old ++ working_line side.now link what.now transfer) }
+    ensures { OnOk result (string_bytes text.new ≡ string_bytes text.old ++ fields_text json (working_fields side.now link what.now transfer)) }
 {
-    push_parts(
+    push_fields(
         text,
+        json,
         &[
-            Text(side),
-            Text(" "),
-            Number(link as u64),
-            Text(" "),
-            Text(what),
-            Text(" process "),
-            Word(transfer.process),
-            Text(" pointer "),
-            Word(transfer.pointer),
-            Text(" left "),
-            Word(transfer.left),
-            Text("\n"),
+            Item(side, link),
+            After(" ", "{\"state\":", Name(what)),
+            Named("process", Word(transfer.process)),
+            Named("pointer", Word(transfer.pointer)),
+            Named("left", Word(transfer.left)),
+            Words("\n", "}"),
         ],
     )
 }
 
-fn push_output(text: &mut String, link: usize, end: OutEnd) -> Result<(), AllocError>
-    ensures { OnOk result (string_bytes text.new ≡ string_bytes text.old ++ output_line link end) }
+fn push_output(text: &mut String, json: bool, link: usize, end: OutEnd) -> Result<(), AllocError>
+    ensures { OnOk result (string_bytes text.new ≡ string_bytes text.old ++ fields_text json (output_fields link end)) }
 {
     match end {
-        OutEnd::Idle => push_idle(text, "out", link),
-        OutEnd::Waits(transfer) => push_working(text, "out", link, "waits", transfer),
+        OutEnd::Idle => push_idle(text, json, "out", link),
+        OutEnd::Waits(transfer) => push_working(text, json, "out", link, "waits", transfer),
     }
 }
 
-/// Appends the line of an input end that holds a byte.
-fn push_held(text: &mut String, link: usize, byte: u8) -> Result<(), AllocError>
-    ensures { OnOk result (string_bytes text.new ≡ string_bytes text.old ++ held_line link byte) }
+/// Appends an input end that holds a byte.
+fn push_held(text: &mut String, json: bool, link: usize, byte: u8) -> Result<(), AllocError>
+    ensures { OnOk result (string_bytes text.new ≡ string_bytes text.old ++ fields_text json (held_fields link byte)) }
 {
-    push_parts(
+    push_fields(
         text,
+        json,
         &[
-            Text("in "),
-            Number(link as u64),
-            Text(" idle held "),
-            Byte(byte),
-            Text("\n"),
+            Item("in", link),
+            After(" ", "{\"state\":", Name("idle")),
+            Named("held", Byte(byte)),
+            Words("\n", "}"),
         ],
     )
 }
 
-fn push_input(text: &mut String, link: usize, end: InEnd) -> Result<(), AllocError>
-    ensures { OnOk result (string_bytes text.new ≡ string_bytes text.old ++ input_end_line link end) }
+/// Appends an input end in an alternative.
+fn push_enabled(text: &mut String, json: bool, link: usize, process: u32) -> Result<(), AllocError>
+    ensures { OnOk result (string_bytes text.new ≡ string_bytes text.old ++ fields_text json (enabled_fields link process)) }
+{
+    push_fields(
+        text,
+        json,
+        &[
+            Item("in", link),
+            After(" ", "{\"state\":", Name("enabled")),
+            Named("process", Word(process)),
+            Words(" pointer 00000000 left 00000000\n", "}"),
+        ],
+    )
+}
+
+fn push_input(text: &mut String, json: bool, link: usize, end: InEnd) -> Result<(), AllocError>
+    ensures { OnOk result (string_bytes text.new ≡ string_bytes text.old ++ fields_text json (input_fields link end)) }
 {
     match end {
-        InEnd::Idle(None) => push_idle(text, "in", link),
-        InEnd::Idle(Some(byte)) => push_held(text, link, byte),
-        InEnd::Inputs(transfer) => push_working(text, "in", link, "inputs", transfer),
-        InEnd::Enabled(process) => {
-            let alone = Transfer {
-                process,
-                pointer: 0,
-                left: 0,
-            };
-            push_working(text, "in", link, "enabled", alone)
-        }
+        InEnd::Idle(None) => push_idle(text, json, "in", link),
+        InEnd::Idle(Some(byte)) => push_held(text, json, link, byte),
+        InEnd::Inputs(transfer) => push_working(text, json, "in", link, "inputs", transfer),
+        InEnd::Enabled(process) => push_enabled(text, json, link, process),
     }
 }
 
-fn push_outputs(text: &mut String, ends: &[OutEnd]) -> Result<(), AllocError>
-    ensures { OnOk result (string_bytes text.new ≡ string_bytes text.old ++ output_lines 0 ends.now) }
+fn push_outputs(text: &mut String, json: bool, ends: &[OutEnd]) -> Result<(), AllocError>
+    ensures { OnOk result (string_bytes text.new ≡ string_bytes text.old ++ outputs_text json 0 ends.now) }
 {
     for (link, end) in ends.iter().enumerate() {
-        push_output(text, link, *end)?;
+        push_output(text, json, link, *end)?;
     }
     Ok(())
 }
 
-fn push_inputs(text: &mut String, ends: &[InEnd]) -> Result<(), AllocError>
-    ensures { OnOk result (string_bytes text.new ≡ string_bytes text.old ++ input_lines 0 ends.now) }
+fn push_inputs(text: &mut String, json: bool, ends: &[InEnd]) -> Result<(), AllocError>
+    ensures { OnOk result (string_bytes text.new ≡ string_bytes text.old ++ inputs_text json 0 ends.now) }
 {
     for (link, end) in ends.iter().enumerate() {
-        push_input(text, link, *end)?;
+        push_input(text, json, link, *end)?;
     }
     Ok(())
 }
 
-/// Appends the lines of a node, by its pages, its processor and its ends.
-fn push_node(
+/// Appends the ends of a node's links.
+fn push_ends(
     text: &mut String,
-    rows: &[MapRow<'_>],
-    number: u64,
-    pages: usize,
-    cpu: &Cpu,
+    json: bool,
     outputs: &[OutEnd],
     inputs: &[InEnd],
 ) -> Result<(), AllocError>
-    ensures { OnOk result (string_bytes text.new ≡ string_bytes text.old ++ node_as_lines (rows_seen rows.now) number pages cpu.now outputs.now inputs.now) }
+    ensures { OnOk result (string_bytes text.new ≡ string_bytes text.old ++ ends_text json outputs.now inputs.now) }
 {
-    push_number(text, number, pages, cpu.halt)?;
-    push_cpu(text, rows, cpu)?;
-    push_outputs(text, outputs)?;
-    push_inputs(text, inputs)
+    push_fields(text, json, &[Words("", ",\"out\":[")])?;
+    push_outputs(text, json, outputs)?;
+    push_fields(text, json, &[Words("", "],\"in\":[")])?;
+    push_inputs(text, json, inputs)?;
+    push_fields(text, json, &[Words("", "]")])
 }
 
-/// Gives the lines of a node, by its pages, its processor and its ends.
-fn node_lines(
+/// Gives what is printed of a node, by its pages, its processor and its ends.
+fn node_of_parts(
     alloc: Global,
+    json: bool,
     rows: &[MapRow<'_>],
     number: u64,
     pages: usize,
@@ -244,24 +294,27 @@ fn node_lines(
     outputs: &[OutEnd],
     inputs: &[InEnd],
 ) -> Result<String, AllocError>
-    ensures { IfOk result (λ text. string_bytes text ≡ node_as_lines (rows_seen rows.now) number pages cpu.now outputs.now inputs.now) }
+    ensures { IfOk result (λ text. string_bytes text ≡ node_of_parts json (rows_seen rows.now) number pages cpu.now outputs.now inputs.now) }
 {
     let mut text = String::new(alloc);
-    push_node(&mut text, rows, number, pages, cpu, outputs, inputs)?;
+    push_number(&mut text, json, number, pages, cpu.halt)?;
+    push_cpu(&mut text, json, rows, cpu)?;
+    push_ends(&mut text, json, outputs, inputs)?;
     Ok(text)
 }
 
-/// Gives all that is printed of the node in an image. `rows` are its map's.
+/// Gives what is printed of the node in an image, up to what it has done: lines, or JSON. `rows` are its map's.
 pub(crate) fn node_text(
     alloc: Global,
+    json: bool,
     rows: &[MapRow<'_>],
     number: u64,
     image: &[u8],
 ) -> Result<String, AllocError>
-    ensures { IfOk result (λ text. string_bytes text ≡ node_text (rows_seen rows.now) number (node_at image.now)) }
+    ensures { IfOk result (λ text. string_bytes text ≡ node_text json (rows_seen rows.now) number (node_at image.now)) }
 {
     let pages = pages_in(image);
     let cpu = cpu_in(image);
     let (outputs, inputs) = (outputs_in(image), inputs_in(image));
-    node_lines(alloc, rows, number, pages, &cpu, &outputs, &inputs)
+    node_of_parts(alloc, json, rows, number, pages, &cpu, &outputs, &inputs)
 }

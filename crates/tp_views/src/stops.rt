@@ -150,7 +150,7 @@ fn push_state(
     ensures same { node.new ≡ node.old }
 {
     let cpu = cpu_now(node);
-    push_cpu(text, rows, &cpu)?;
+    push_cpu(text, false, rows, &cpu)?;
     let bytes = memory_of(alloc, node, cpu.wptr, 4 * WORKSPACE_WORDS)?;
     push_workspace(text, cpu.wptr, bytes.as_slice())?;
     push_range(alloc, text, stops.watch, node)
