@@ -108,3 +108,4 @@ pub use Rattle.tp_book.specs.declared.port_parts.PortParts.{PortParts}
 pub use Rattle.tp_disk.proofs.Agree.{inside_written, same_apart, same_in, same_refl, same_sym, same_trans, same_wider}
 pub use Rattle.tp_disk.proofs.Calls.{AllWithin, all_done-append, and_then, broke_first, broke_later, broke_one, call_leaves, called_one, called_then, calls_leave, same_outside_write, started, synced_stands, weaker, written_through}
 pub use Rattle.tp_disk.proofs.Moments.{length-written, outside_last, written_same_outside}
+pub use Rattle.tp_disk.proofs.Readings.{read_kept, read_true, same_kept}

@@ -1,7 +1,7 @@
 -- The area that isn't open may hold anything, as long as its gate is closed.
 use Rattle.std.proofs.Common.{◌≡◌, ℕ, ◌+◌, ◌-◌, ◌<◌, ◌≤◌, inl, inr, Bool, true, false, List, [], ◌∷◌, length, take, drop, get_or, refl, sym, ap, subst, ◌∙◌, arith, add-zero, Some, None, Result, Ok, Err, OnOk, OnErr}
 use Rattle.std.specs.Prelude.{not, nat_lt, if◌then◌else◌}
-use Rattle.tp_area.proofs.Lower.{cond-false, eq-eqb, cond_some, same_Some, drop_more, get_or-drop, OpenFault, TwoAreas, AREA_HEAD_BYTES, GATE_CLOSED, u8_at, NodeState, t414, t414_ends, area_start, areas_end, gate_of, content_of, is_open, generation_of, Moment, MayBe, Write, Sync, Read, SameOutside, IsWithin, written, done, within, State, MomentPassed, Fails, IsSynced, LeavesOnly, all_done, Called, Broke, clear_calls, switch_calls, Held, gate_closed, Opened, held_of, area_in, chosen_area, choice, opening, verdict, base_of, form_of, device_areas, open_other_of, spare_of, other_of, if_newer, other_is_open, other_start, other_content, RestsBetweenGroups, put_may, put_done, written_same_outside, same_apart, called_one, called_then, broke_one, broke_first, broke_later, weaker, call_leaves, calls_leave}
+use Rattle.tp_area.proofs.Lower.{cond-false, eq-eqb, ne_eqb, cond_some, same_Some, drop_more, get_or-drop, OpenFault, TwoAreas, AREA_HEAD_BYTES, GATE_CLOSED, u8_at, NodeState, t414, t414_ends, area_start, areas_end, gate_of, content_of, is_open, generation_of, Moment, MayBe, Write, Sync, Read, SameOutside, IsWithin, written, done, within, State, MomentPassed, Fails, IsSynced, LeavesOnly, all_done, Called, Broke, clear_calls, switch_calls, Held, gate_closed, Opened, held_of, area_in, chosen_area, choice, opening, verdict, base_of, form_of, device_areas, open_other_of, spare_of, other_of, if_newer, other_is_open, other_start, other_content, RestsBetweenGroups, put_may, put_done, written_same_outside, same_apart, called_one, called_then, broke_one, broke_first, broke_later, weaker, call_leaves, calls_leave}
 use Rattle.tp_area.specs.declared.place.Place.{Place}
 use Rattle.tp_area.specs.Places.{cut_field, listed, place_in, place_at}
 use Rattle.tp_area.specs.Other.{other_gate, if_open, OtherIsClosed, Cleared, PutBehind, Switched}
@@ -116,6 +116,12 @@ pub looked_open : (gate : ℕ) (found : List ℕ) (s t u : State) → gate < len
 looked_open gate found s t u inside was same now goes called =
     subst (λ b. Called (clear_calls (if b then Some gate else None)) s u) (sym (opened_gate gate found s.now.bytes inside was same))
     (called_then (Read ∷ []) (Write gate gate_closed ∷ Sync ∷ []) s t u (called_one Read s t now goes) called)
+
+pub looked_closed : (gate : ℕ) (found : List ℕ) (s t : State) → gate < length s.now.bytes → found ≡ take 1 (drop gate s.now.bytes) → (get_or found 0 0 ≡ 165 → ⊥)
+    → t.now ≡ done Read s.now → MomentPassed s t → Called (clear_calls (if_open gate s.now.bytes)) s t
+looked_closed gate found s t inside was other now goes =
+    let byte : get_or found 0 0 ≡ u8_at s.now.bytes gate = ap (λ xs. get_or xs 0 0) (was ∙ ap (take 1) (drop_more s.now.bytes gate 0 inside)) in
+    subst (λ b. Called (clear_calls (if b then Some gate else None)) s t) (sym (ap is_open (sym byte) ∙ ne_eqb (get_or found 0 0) 165 other)) (called_one Read s t now goes)
 
 pub look_broke : (gate : ℕ) (s t : State) → MomentPassed s t → Fails Read s t → Broke (clear_calls (if_open gate s.now.bytes)) s t
 look_broke gate s t goes failed = go (is_open (u8_at s.now.bytes gate))

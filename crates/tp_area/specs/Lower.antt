@@ -50,3 +50,4 @@ pub use Rattle.tp_model.specs.declared.opening.OpenFault.TheVariants.{BadVersion
 pub use Rattle.tp_law_network.specs.Standing.{RestsBetweenGroups}
 pub use Rattle.tp_law_device.specs.InGroups.{in_groups}
 pub use Rattle.tp_book.specs.PortParts.{port_made}
+pub use Rattle.tp_disk.specs.Reads.{AreTrue, WereTrue}

@@ -72,9 +72,10 @@ fn put_first_area<D: Disk>(
     requires inside { at + FRONT_BYTES + lengths.images + lengths.rest ≤ D.size_of disk.old }
     requires fits { D.size_of disk.old < 2 ^ 64 }
     ensures counts { Counts (is_ok result) (D.size_of disk.old) (D.size_of disk.new) (D.failures_of disk.old) (D.failures_of disk.new) }
-    ensures put { D.keeps → OnOk result (Puts at ((area_front lengths.cut ++ flat_map (λ image. image.items) images.now) ++ zeros lengths.rest)
+    ensures unread { D.reads disk.new ≡ D.reads disk.old }
+    ensures put { OnOk result (Puts at ((area_front lengths.cut ++ flat_map (λ image. image.items) images.now) ++ zeros lengths.rest)
         (D.state disk.old) (D.state disk.new)) }
-    ensures leaves { D.keeps → LeavesOnly (D.state disk.old) (D.state disk.new) (ButFor at (FRONT_BYTES + lengths.images + lengths.rest) (D.state disk.old).now) }
+    ensures leaves { LeavesOnly (D.state disk.old) (D.state disk.new) (ButFor at (FRONT_BYTES + lengths.images + lengths.rest) (D.state disk.old).now) }
 {
     let mut front = [0; FRONT_BYTES];
     put_front(lengths.cut as u32, &mut front);
@@ -99,9 +100,10 @@ fn write_all<D: Disk>(
     requires head { length head.now ≡ areas.first }
     requires fits { D.size_of disk.old < 2 ^ 64 }
     ensures counts { Counts (is_ok result) (D.size_of disk.old) (D.size_of disk.new) (D.failures_of disk.old) (D.failures_of disk.new) }
-    ensures wrote { D.keeps → OnOk result (Wrote ((area_front lengths.cut ++ flat_map (λ image. image.items) images.now) ++ zeros lengths.rest)
+    ensures unread { D.reads disk.new ≡ D.reads disk.old }
+    ensures wrote { OnOk result (Wrote ((area_front lengths.cut ++ flat_map (λ image. image.items) images.now) ++ zeros lengths.rest)
         head.now areas (D.state disk.old) (D.state disk.new)) }
-    ensures leaves { D.keeps → LeavesOnly (D.state disk.old) (D.state disk.new) (λ left. ButFor areas.first (2 * areas.length) (D.state disk.old).now left
+    ensures leaves { LeavesOnly (D.state disk.old) (D.state disk.new) (λ left. ButFor areas.first (2 * areas.length) (D.state disk.old).now left
         ⊎ SameOutside 0 areas.first (with_areas ((area_front lengths.cut ++ flat_map (λ image. image.items) images.now) ++ zeros lengths.rest)
         areas (D.state disk.old).now.bytes) left) }
 {
@@ -126,8 +128,9 @@ pub fn format<D: Disk>(
     ensures early { is_early result ≡ true → disk.new ≡ disk.old }
     ensures failures { D.failures_of disk.new ≡ D.failures_of disk.old + failed_calls result }
     ensures size { D.size_of disk.new ≡ D.size_of disk.old }
-    ensures formatted { D.keeps → OnOk result (Formatted topology.now (map (λ image. image.items) images.now) (areas_of_length (version_for topology.now) area) (D.state disk.old) (D.state disk.new)) }
-    ensures leaves { D.keeps → LeavesOnly (D.state disk.old) (D.state disk.new) (IsOldOrNew topology.now (map (λ image. image.items) images.now) (areas_of_length (version_for topology.now) area) (D.state disk.old)) }
+    ensures unread { D.reads disk.new ≡ D.reads disk.old }
+    ensures formatted { OnOk result (Formatted topology.now (map (λ image. image.items) images.now) (areas_of_length (version_for topology.now) area) (D.state disk.old) (D.state disk.new)) }
+    ensures leaves { LeavesOnly (D.state disk.old) (D.state disk.new) (IsOldOrNew topology.now (map (λ image. image.items) images.now) (areas_of_length (version_for topology.now) area) (D.state disk.old)) }
 {
     check_images(alloc, topology.pages(), images)?;
     let lengths = lengths_of(topology);

@@ -13,8 +13,9 @@ const ZEROS: usize = 4096;
 pub(crate) fn put_piece<D: Disk>(disk: &mut D, at: u64, bytes: &[u8]) -> Result<(), DeviceFailed>
     requires { at + length bytes.now ≤ D.size_of disk.old }
     ensures counts { Counts (is_ok result) (D.size_of disk.old) (D.size_of disk.new) (D.failures_of disk.old) (D.failures_of disk.new) }
-    ensures put { D.keeps → OnOk result (Puts at bytes.now (D.state disk.old) (D.state disk.new)) }
-    ensures leaves { D.keeps → LeavesOnly (D.state disk.old) (D.state disk.new) (ButFor at (length bytes.now) (D.state disk.old).now) }
+    ensures unread { D.reads disk.new ≡ D.reads disk.old }
+    ensures put { OnOk result (Puts at bytes.now (D.state disk.old) (D.state disk.new)) }
+    ensures leaves { LeavesOnly (D.state disk.old) (D.state disk.new) (ButFor at (length bytes.now) (D.state disk.old).now) }
 {
     disk.write_at(at, bytes)
 }
@@ -24,8 +25,9 @@ pub(crate) fn put_zeros<D: Disk>(disk: &mut D, at: u64, count: u64) -> Result<()
     requires inside { at + count ≤ D.size_of disk.old }
     requires fits { D.size_of disk.old < 2 ^ 64 }
     ensures counts { Counts (is_ok result) (D.size_of disk.old) (D.size_of disk.new) (D.failures_of disk.old) (D.failures_of disk.new) }
-    ensures put { D.keeps → OnOk result (Puts at (zeros count) (D.state disk.old) (D.state disk.new)) }
-    ensures leaves { D.keeps → LeavesOnly (D.state disk.old) (D.state disk.new) (ButFor at count (D.state disk.old).now) }
+    ensures unread { D.reads disk.new ≡ D.reads disk.old }
+    ensures put { OnOk result (Puts at (zeros count) (D.state disk.old) (D.state disk.new)) }
+    ensures leaves { LeavesOnly (D.state disk.old) (D.state disk.new) (ButFor at count (D.state disk.old).now) }
 {
     let piece = [0; ZEROS];
     let mut left = count;
@@ -46,8 +48,9 @@ pub(crate) fn put_images<D: Disk>(
     requires inside { at + length (flat_map (λ image. image.items) images.now) ≤ D.size_of disk.old }
     requires fits { D.size_of disk.old < 2 ^ 64 }
     ensures counts { Counts (is_ok result) (D.size_of disk.old) (D.size_of disk.new) (D.failures_of disk.old) (D.failures_of disk.new) }
-    ensures put { D.keeps → OnOk result (Puts at (flat_map (λ image. image.items) images.now) (D.state disk.old) (D.state disk.new)) }
-    ensures leaves { D.keeps → LeavesOnly (D.state disk.old) (D.state disk.new) (ButFor at (length (flat_map (λ image. image.items) images.now)) (D.state disk.old).now) }
+    ensures unread { D.reads disk.new ≡ D.reads disk.old }
+    ensures put { OnOk result (Puts at (flat_map (λ image. image.items) images.now) (D.state disk.old) (D.state disk.new)) }
+    ensures leaves { LeavesOnly (D.state disk.old) (D.state disk.new) (ButFor at (length (flat_map (λ image. image.items) images.now)) (D.state disk.old).now) }
 {
     let mut place = at;
     for image in images {

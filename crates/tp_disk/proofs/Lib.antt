@@ -4,3 +4,5 @@ pub mod Calls
 pub mod Torn
 pub mod Agree
 pub mod Pieces
+pub mod Readings
+pub mod FileState

@@ -1,21 +1,9 @@
--- The premise on files, and how a file becomes a device.
+-- How a file becomes a device.
 use Rattle.std.specs.Prelude.{◌≡◌, ℕ, true, ◌&&◌, if◌then◌else◌, nat_eq, nat_lt, List, [], ◌∷◌, ◌++◌, length, take, drop}
 use Rattle.tp_disk.specs.declared.filling.Making.{Making}
 use Rattle.tp_disk.specs.declared.filling.Making.TheVariants.{Done, Empties, Fills}
 use Rattle.tp_disk.specs.Filling.{GoesOn, IsLeft, asking, clearing}
 use Rattle.tp_disk.specs.History.{FileCall, Measures, Resizes, Syncs, SyncsData, Writes}
-
--- The premise that files of the operating system keep the model. Nothing proves it, and no proof outside this crate unfolds it. It needs
--- two things of a sync that succeeded. `fsync` (`Syncs`) makes last what was written, and the length that was given. `fdatasync`
--- (`SyncsData`), of a file whose length lasts, makes last what was written, and what else is needed to read it, such as where its blocks
--- are. If another program put the file there and never synced it, that includes the length, since it is needed to read the bytes. POSIX
--- says this of both.
-unfoldable pub file_keeps : Type 0
-file_keeps = ⊥
-
-pub no_file : file_keeps → ⊥
-unfolding file_keeps
-no_file keeps = keeps
 
 -- The calls of the system that make a device of `size` bytes of a file. If it is one, there are none. If it takes room as it is written, it
 -- is emptied and gets its length. Else it first gets room for all of the device, and only then what it had is written over.

@@ -1,6 +1,9 @@
 pub mod Lower
+pub mod Reads
 pub mod Failures
 pub mod History
+pub mod FileState
+pub mod Noted
 pub mod Plan
 pub mod Memory
 pub mod Laws

@@ -1,10 +1,11 @@
 -- A device in memory: what has happened to it, and what a call of it comes to.
-use Rattle.std.specs.Prelude.{◌≡◌, ℕ, ◌+◌, Bool}
+use Rattle.std.specs.Prelude.{◌≡◌, ℕ, ◌+◌, Bool, List}
 use Rattle.tp_disk.specs.Lower.{Call, State, MomentPassed}
 use Rattle.tp_disk.specs.declared.counted.Counted.{Counted}
 use Rattle.tp_disk.specs.declared.memory.RawMemory.{RawMemory}
 use Rattle.tp_disk.specs.declared.plan.Outcome.{Outcome}
 use Rattle.tp_disk.specs.declared.plan.Plan.{Plan}
+use Rattle.tp_disk.specs.Reads.{Reading}
 use Rattle.tp_disk.specs.Plan.{becomes, is_done, came_to}
 
 -- its bytes and ranges now, and before each call so far
@@ -13,6 +14,10 @@ memory_state memory = record {
   now = record { bytes = memory.bytes.items; unsynced = memory.history.told.unsynced };
   past = memory.history.told.past;
 }
+
+-- which of its reads were answered
+abbrev pub memory_reads : RawMemory → List Reading
+memory_reads memory = memory.history.told.reads
 
 -- what its calls have led to, if it counts its failures
 abbrev pub disk_state : Counted RawMemory → State

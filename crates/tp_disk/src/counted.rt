@@ -49,9 +49,9 @@ impl<F: RawDisk> Disk for Counted<F> {
 
     ghost failures_of = { λ d. failure_count d.failed };
 
-    ghost keeps = { F.keeps };
-
     ghost state = { λ d. F.state d.raw };
+
+    ghost reads = { λ d. F.reads d.raw };
 
     fn size(&self) -> u64 {
         self.raw.size()
@@ -85,5 +85,5 @@ impl<F: RawDisk> Disk for Counted<F> {
         done
     }
 
-    ghost whole = { λ k d. F.whole k d.raw };
+    ghost whole = { λ d. F.whole d.raw };
 }

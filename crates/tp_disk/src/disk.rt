@@ -1,7 +1,8 @@
 //! What the store sees of a device.
 
-ghost use Rattle.std.specs.Prelude.{◌≡◌, ℕ, ◌+◌, ◌-◌, ◌^◌, ◌≤◌, min, length, take, drop, is_ok, OnOk, OnErr};
+ghost use Rattle.std.specs.Prelude.{◌≡◌, ℕ, ◌+◌, ◌-◌, ◌^◌, ◌≤◌, List, ◌++◌, min, length, is_ok, OnOk, OnErr};
 ghost use Rattle.tp_disk.specs.Lower.{Write, Sync, Read, done, State, MomentPassed, Fails, Counts};
+ghost use Rattle.tp_disk.specs.Reads.{Reading, answered};
 
 use thiserror::Error;
 
@@ -12,8 +13,8 @@ pub struct DeviceFailed;
 
 /// A device of a fixed number of bytes.
 ///
-/// What is said of its bytes and of crashes needs a premise, `keeps`: that the devices of this type keep the model, whose moments and
-/// histories `tp_model` defines. The size and the count of failures need none.
+/// Its calls lead from state to state, whose moments `tp_model` defines. What a read gives is said under a premise on this device alone,
+/// `AreTrue` of its reads: each of them gave what the state held. Nothing else needs a premise.
 pub trait Disk {
     /// How many bytes it has.
     ghost size_of: { Self → ℕ };
@@ -21,11 +22,11 @@ pub trait Disk {
     /// How many of its calls have failed.
     ghost failures_of: { Self → ℕ };
 
-    /// The premise: devices of this type keep the model.
-    ghost keeps: { Type 0 };
-
-    /// What has happened to it so far. Without the premise nothing is said of it.
+    /// What its calls so far have led to.
     ghost state: { Self → State };
+
+    /// Which of its reads so far were answered, each beside what the state held then. `AreTrue` of them is the premise on this device.
+    ghost reads: { Self → List Reading };
 
     /// Counts its bytes.
     fn size(&self) -> u64
@@ -39,28 +40,30 @@ pub trait Disk {
     fn read(&mut self, at: u64, out: &mut [u8]) -> Result<(), DeviceFailed>
         requires { at + length out.old ≤ size_of self.old }
         ensures counts { Counts (is_ok result) (size_of self.old) (size_of self.new) (failures_of self.old) (failures_of self.new) }
-        ensures goes { keeps → MomentPassed (state self.old) (state self.new) }
-        ensures bytes { keeps → OnOk result (out.new ≡ take (length out.old) (drop at (state self.old).now.bytes)) }
-        ensures after { keeps → OnOk result ((state self.new).now ≡ done Read (state self.old).now) }
-        ensures failed { keeps → OnErr result (Fails Read (state self.old) (state self.new)) };
+        ensures goes { MomentPassed (state self.old) (state self.new) }
+        ensures noted { reads self.new ≡ reads self.old ++ answered (is_ok result) at out.new (state self.old).now.bytes }
+        ensures after { OnOk result ((state self.new).now ≡ done Read (state self.old).now) }
+        ensures failed { OnErr result (Fails Read (state self.old) (state self.new)) };
 
     /// Writes over the bytes from `at` on. Until a sync succeeds, a crash may leave any bytes in the range, also after `DeviceFailed`.
     fn write_at(&mut self, at: u64, bytes: &[u8]) -> Result<(), DeviceFailed>
         requires { at + length bytes.now ≤ size_of self.old }
         ensures counts { Counts (is_ok result) (size_of self.old) (size_of self.new) (failures_of self.old) (failures_of self.new) }
-        ensures goes { keeps → MomentPassed (state self.old) (state self.new) }
-        ensures after { keeps → OnOk result ((state self.new).now ≡ done (Write at bytes.now) (state self.old).now) }
-        ensures failed { keeps → OnErr result (Fails (Write at bytes.now) (state self.old) (state self.new)) };
+        ensures unread { reads self.new ≡ reads self.old }
+        ensures goes { MomentPassed (state self.old) (state self.new) }
+        ensures after { OnOk result ((state self.new).now ≡ done (Write at bytes.now) (state self.old).now) }
+        ensures failed { OnErr result (Fails (Write at bytes.now) (state self.old) (state self.new)) };
 
     /// Syncs what was written: after it, a crash leaves what a read gives. After `DeviceFailed` it may not.
     fn sync(&mut self) -> Result<(), DeviceFailed>
         ensures counts { Counts (is_ok result) (size_of self.old) (size_of self.new) (failures_of self.old) (failures_of self.new) }
-        ensures goes { keeps → MomentPassed (state self.old) (state self.new) }
-        ensures after { keeps → OnOk result ((state self.new).now ≡ done Sync (state self.old).now) }
-        ensures failed { keeps → OnErr result (Fails Sync (state self.old) (state self.new)) };
+        ensures unread { reads self.new ≡ reads self.old }
+        ensures goes { MomentPassed (state self.old) (state self.new) }
+        ensures after { OnOk result ((state self.new).now ≡ done Sync (state self.old).now) }
+        ensures failed { OnErr result (Fails Sync (state self.old) (state self.new)) };
 
     /// The device's size is the number of bytes that its model has.
-    ghost whole: { keeps → (d : Self) → length (state d).now.bytes ≡ size_of d };
+    ghost whole: { (d : Self) → length (state d).now.bytes ≡ size_of d };
 }
 
 /// A device that is lent is a device.
@@ -69,9 +72,9 @@ impl<D: Disk> Disk for &mut D {
 
     ghost failures_of = { λ d. D.failures_of d.now };
 
-    ghost keeps = { D.keeps };
-
     ghost state = { λ d. D.state d.now };
+
+    ghost reads = { λ d. D.reads d.now };
 
     fn size(&self) -> u64 {
         (**self).size()
@@ -93,5 +96,5 @@ impl<D: Disk> Disk for &mut D {
         (**self).sync()
     }
 
-    ghost whole = { λ k d. D.whole k d.now };
+    ghost whole = { λ d. D.whole d.now };
 }

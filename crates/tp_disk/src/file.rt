@@ -1,30 +1,26 @@
 //! A device in a file of the operating system.
 
-ghost use Rattle.std.specs.Prelude.{◌≡◌, ◌+◌, ◌≤◌, [], ◌∷◌, ◌++◌, length, take, drop, is_ok, IfOk, OnOk, OnErr};
-ghost use Rattle.tp_disk.specs.Lower.{Write, Sync, Read, done, Fails, MomentPassed, unknown};
-ghost use Rattle.tp_disk.specs.File.{file_keeps, no_file};
-ghost use Rattle.tp_disk.specs.History.{Measures, Reads, SyncsData, Writes};
+ghost use Rattle.std.specs.Prelude.{◌≡◌, ◌+◌, ◌≤◌, [], ◌∷◌, ◌++◌, length, is_ok, IfOk, OnOk, OnErr};
+ghost use Rattle.tp_disk.specs.Lower.{Write, Sync, Read, done, Fails, MomentPassed};
+ghost use Rattle.tp_disk.specs.FileState.{begins};
+ghost use Rattle.tp_disk.specs.History.{Measures, Medium, Reads, SyncsData, Writes};
+ghost use Rattle.tp_disk.specs.Noted.{file_reads, file_state};
+ghost use Rattle.tp_disk.specs.Reads.{answered};
 
-use crate::counted::Counted;
-use crate::disk::{DeviceFailed, Disk};
+use crate::disk::DeviceFailed;
+use crate::file_history::FileHistory;
 use crate::raw::RawDisk;
-use crate::system::{NotedFile, SystemFile};
-use std::fs::{File, OpenFile, OpenOptions};
+use crate::system::SystemFile;
 use std::io;
-use std::os::unix::fs::FileExt;
-use std::rt::Files;
 
-/// A file that doesn't count its failures. That it keeps the model is a premise. Its size is proved, and that each call makes exactly one
-/// call of the system, and succeeds only if that did. Its length never changes, so a sync forces the bytes alone.
+/// A file that doesn't count its failures. Each call makes exactly one call of the system, and succeeds only if that did. Its length never
+/// changes, so a sync forces the bytes alone.
 #[derive(Drop)]
 pub struct RawFile<F: SystemFile + Drop> {
     file: F,
-    size: u64,
+    noted: FileHistory,
     failure: Option<io::Error>,
 }
-
-/// A device in a file.
-pub type FileDisk = Counted<RawFile<NotedFile<File>>>;
 
 /// Gives the device's answer to the system's, and keeps why it failed.
 pub(crate) fn answer(
@@ -43,14 +39,18 @@ pub(crate) fn answer(
 }
 
 impl<F: SystemFile + Drop> RawFile<F> {
-    /// Makes the device in an open file; its size is the file's. Fails if the system doesn't tell the length.
+    /// Makes the device in an open file; its size is the file's. What it holds is the ghost value `medium`. Fails if the system
+    /// doesn't tell the length.
     pub fn new(mut file: F) -> io::Result<RawFile<F>>
-        ensures { IfOk result (λ raw. F.calls raw.file ≡ F.calls file ++ Measures raw.size ∷ []) }
+        ghost medium: { Medium }
+        ensures measured { IfOk result (λ raw. F.calls raw.file ≡ F.calls file ++ Measures raw.noted.size ∷ []) }
+        ensures state { IfOk result (λ raw. file_state raw.noted ≡ begins medium raw.noted.size) }
+        ensures reads { IfOk result (λ raw. file_reads raw.noted ≡ []) }
     {
         let size = file.measure()?;
         Ok(RawFile {
             file,
-            size,
+            noted: FileHistory::of_file(size),
             failure: None,
         })
     }
@@ -62,74 +62,52 @@ impl<F: SystemFile + Drop> RawFile<F> {
 }
 
 impl<F: SystemFile + Drop> RawDisk for RawFile<F> {
-    ghost size_of = { λ d. d.size };
+    ghost size_of = { λ d. d.noted.size };
 
-    ghost keeps = { file_keeps };
+    ghost state = { λ d. file_state d.noted };
 
-    ghost state = { λ _. unknown };
+    ghost reads = { λ d. file_reads d.noted };
 
     fn size(&self) -> u64 {
-        self.size
+        self.noted.size()
     }
 
-    #[tactic(auto, unfolding(crate::specs::File::file_keeps))]
     fn read(&mut self, at: u64, out: &mut [u8]) -> Result<(), DeviceFailed>
-        ensures size { self.new.size ≡ self.old.size }
-        ensures goes { file_keeps → MomentPassed unknown unknown }
-        ensures bytes { file_keeps → OnOk result (out.new ≡ take (length out.old) (drop at unknown.now.bytes)) }
-        ensures after { file_keeps → OnOk result (unknown.now ≡ done Read unknown.now) }
-        ensures failed { file_keeps → OnErr result (Fails Read unknown unknown) }
+        ensures size { self.new.noted.size ≡ self.old.noted.size }
+        ensures noted { file_reads self.new.noted ≡ file_reads self.old.noted ++ answered (is_ok result) at out.new (file_state self.old.noted).now.bytes }
+        ensures goes { MomentPassed (file_state self.old.noted) (file_state self.new.noted) }
+        ensures after { OnOk result ((file_state self.new.noted).now ≡ done Read (file_state self.old.noted).now) }
+        ensures failed { OnErr result (Fails Read (file_state self.old.noted) (file_state self.new.noted)) }
         ensures called { F.calls self.new.file ≡ F.calls self.old.file ++ Reads at out.new (is_ok result) ∷ [] }
     {
-        answer(self.file.read_all(at, out), &mut self.failure)
+        let ended = answer(self.file.read_all(at, out), &mut self.failure);
+        self.noted.has_read(at, out, ended)
     }
 
-    #[tactic(auto, unfolding(crate::specs::File::file_keeps))]
     fn write_at(&mut self, at: u64, bytes: &[u8]) -> Result<(), DeviceFailed>
-        ensures size { self.new.size ≡ self.old.size }
-        ensures goes { file_keeps → MomentPassed unknown unknown }
-        ensures after { file_keeps → OnOk result (unknown.now ≡ done (Write at bytes.now) unknown.now) }
-        ensures failed { file_keeps → OnErr result (Fails (Write at bytes.now) unknown unknown) }
+        requires { at + length bytes.now ≤ self.old.noted.size }
+        ensures size { self.new.noted.size ≡ self.old.noted.size }
+        ensures unread { file_reads self.new.noted ≡ file_reads self.old.noted }
+        ensures goes { MomentPassed (file_state self.old.noted) (file_state self.new.noted) }
+        ensures after { OnOk result ((file_state self.new.noted).now ≡ done (Write at bytes.now) (file_state self.old.noted).now) }
+        ensures failed { OnErr result (Fails (Write at bytes.now) (file_state self.old.noted) (file_state self.new.noted)) }
         ensures called { F.calls self.new.file ≡ F.calls self.old.file ++ Writes at bytes.now (is_ok result) ∷ [] }
     {
-        answer(self.file.write_all(at, bytes), &mut self.failure)
+        let ended = answer(self.file.write_all(at, bytes), &mut self.failure);
+        self.noted.has_written(at, bytes, ended)
     }
 
-    #[tactic(auto, unfolding(crate::specs::File::file_keeps))]
     fn sync(&mut self) -> Result<(), DeviceFailed>
-        ensures size { self.new.size ≡ self.old.size }
-        ensures goes { file_keeps → MomentPassed unknown unknown }
-        ensures after { file_keeps → OnOk result (unknown.now ≡ done Sync unknown.now) }
-        ensures failed { file_keeps → OnErr result (Fails Sync unknown unknown) }
+        ensures size { self.new.noted.size ≡ self.old.noted.size }
+        ensures unread { file_reads self.new.noted ≡ file_reads self.old.noted }
+        ensures goes { MomentPassed (file_state self.old.noted) (file_state self.new.noted) }
+        ensures after { OnOk result ((file_state self.new.noted).now ≡ done Sync (file_state self.old.noted).now) }
+        ensures failed { OnErr result (Fails Sync (file_state self.old.noted) (file_state self.new.noted)) }
         ensures called { F.calls self.new.file ≡ F.calls self.old.file ++ SyncsData (is_ok result) ∷ [] }
     {
-        answer(self.file.sync_data(), &mut self.failure)
+        let ended = answer(self.file.sync_data(), &mut self.failure);
+        self.noted.has_synced(ended)
     }
 
-    ghost whole = { λ k d. absurd (no_file k) };
-}
-
-impl<F: FileExt + OpenFile + Drop> Counted<RawFile<NotedFile<F>>> {
-    /// Opens the device in the file at this path; its size is the file's. Fails as the system does.
-    pub fn open<R: Files<File = F>>(
-        rt: &R,
-        path: &str,
-    ) -> io::Result<Counted<RawFile<NotedFile<F>>>>
-        ensures { IfOk result (λ disk. ⟦<Counted<RawFile<NotedFile<F>>> as Disk>⟧.failures_of disk ≡ 0) }
-    {
-        let file = OpenOptions::new().read(true).write(true).open(rt, path)?;
-        Ok(Counted::new(RawFile::new(NotedFile::new(file))?))
-    }
-
-    /// Opens that device only to read it. That works without the right to write the file, and no call of the device changes the file. Fails
-    /// as the system does.
-    pub fn open_to_read<R: Files<File = F>>(
-        rt: &R,
-        path: &str,
-    ) -> io::Result<Counted<RawFile<NotedFile<F>>>>
-        ensures { IfOk result (λ disk. ⟦<Counted<RawFile<NotedFile<F>>> as Disk>⟧.failures_of disk ≡ 0) }
-    {
-        let file = OpenOptions::new().read(true).open(rt, path)?;
-        Ok(Counted::new(RawFile::new(NotedFile::new(file))?))
-    }
+    ghost whole = { λ d. d.noted.whole };
 }

@@ -2,7 +2,7 @@
 
 ghost use Rattle.std.specs.Prelude.{◌≡◌, ◌+◌, [], ◌∷◌, ◌++◌};
 ghost use Rattle.std.specs.Borrow.{ftrue};
-ghost use Rattle.tp_disk.specs.History.{DeviceTold, nothing_told, with_call, Measures, Reads, Resizes, Syncs, SyncsData, Writes};
+ghost use Rattle.tp_disk.specs.History.{DeviceTold, Medium, nothing_told, with_call, Measures, Reads, Resizes, Syncs, SyncsData, Writes};
 
 use std::marker::Model;
 
@@ -20,7 +20,7 @@ impl Model for History {
 unsafe impl Send for History {}
 
 impl History {
-    ghost use Rattle.tp_disk.specs.History.{DeviceTold};
+    ghost use Rattle.tp_disk.specs.History.{DeviceTold, Medium};
 
     /// Gives the ghost value `told`, which a contract names by what is lent as `_value`. It does nothing.
     pub(crate) fn of<T>(_value: &T) -> History
@@ -33,6 +33,14 @@ impl History {
     /// Makes the history of a device to which nothing has happened.
     pub(crate) fn new() -> History
         ensures { result.told ≡ nothing_told }
+    {
+        History::of(&())
+    }
+
+    /// Makes the history of a file to which nothing has happened, and which holds the ghost value `medium`.
+    pub(crate) fn of_file() -> History
+        ghost medium: { Medium }
+        ensures { result.told ≡ record nothing_told { medium = medium } }
     {
         History::of(&())
     }

@@ -1,7 +1,8 @@
 //! A device in memory. One of its calls may come to a bad end.
 
-ghost use Rattle.std.specs.Prelude.{◌≡◌, ℕ, ◌+◌, ◌≤◌, [], refl, ◌∷◌, ◌++◌, length, take, drop, replicate, is_ok, OnOk, IfOk};
+ghost use Rattle.std.specs.Prelude.{◌≡◌, ℕ, ◌+◌, ◌≤◌, [], refl, ◌∷◌, ◌++◌, length, take, drop, replicate, is_ok, true, OnOk, IfOk};
 ghost use Rattle.tp_disk.specs.Lower.{MayBe, Write, Sync, Read, written, MomentPassed};
+ghost use Rattle.tp_disk.specs.Reads.{AreTrue, AreTrue-prop, answered};
 
 use crate::counted::Counted;
 use crate::disk::{DeviceFailed, Disk};
@@ -15,8 +16,9 @@ use std::alloc::{AllocError, Global};
 pub struct RawMemory {
     bytes: Vec<u8>,
     plan: Plan,
-    /// The ranges since the last sync that was done, and the moments before each call.
+    /// The ranges since the last sync that was done, the moments before each call, and the reads that were answered.
     history: History,
+    ghost fit: { AreTrue history.told.reads } by { AreTrue-prop history.told.reads },
 }
 
 /// A device in memory.
@@ -33,7 +35,7 @@ fn put(bytes: &mut Vec<u8>, at: u64, piece: &[u8])
 
 impl RawMemory {
     ghost use Rattle.tp_disk.specs.Plan.{becomes};
-    ghost use Rattle.tp_disk.specs.Memory.{memory_state, CameTo, PlanGoesOn};
+    ghost use Rattle.tp_disk.specs.Memory.{memory_reads, memory_state, CameTo, PlanGoesOn};
 
     /// Makes the moment before a call past, and tells what the plan makes of the call.
     fn begin(&mut self) -> Outcome
@@ -42,21 +44,31 @@ impl RawMemory {
         ensures bytes { self.new.bytes ≡ self.old.bytes }
         ensures unsynced { self.new.history.told.unsynced ≡ self.old.history.told.unsynced }
         ensures past { MomentPassed (memory_state self.old) (memory_state self.new) }
+        ensures unread { memory_reads self.new ≡ memory_reads self.old }
     {
         self.history = self.history.later(&self.bytes);
         self.plan.next()
+    }
+
+    /// Adds a read from `at` on that gave `came`.
+    fn answered(&self, at: u64, came: &[u8]) -> History
+        ensures { result.told ≡ record self.now.history.told { reads = memory_reads self.now ++ answered true at came.now self.now.bytes.items } }
+    {
+        History::of(&(self, at, came))
     }
 
     fn read_planned(&mut self, at: u64, out: &mut [u8]) -> Result<(), DeviceFailed>
         requires { at + length out.old ≤ length self.old.bytes.items }
         ensures came { CameTo (becomes self.old.plan 0) Read (is_ok result) (memory_state self.old) (memory_state self.new) }
         ensures bytes { OnOk result (out.new ≡ take (length out.old) (drop at self.old.bytes.items)) }
+        ensures noted { memory_reads self.new ≡ memory_reads self.old ++ answered (is_ok result) at out.new self.old.bytes.items }
         ensures later { PlanGoesOn self.old.plan self.new.plan }
     {
         match self.begin() {
             Outcome::Done => {
                 let from = at as usize;
                 out.copy_from_slice(&self.bytes[from..from + out.len()]);
+                self.history = self.answered(at, out);
                 Ok(())
             }
             Outcome::Refused | Outcome::Torn(_) => Err(DeviceFailed),
@@ -66,6 +78,7 @@ impl RawMemory {
     fn write_planned(&mut self, at: u64, bytes: &[u8]) -> Result<(), DeviceFailed>
         requires { at + length bytes.now ≤ length self.old.bytes.items }
         ensures came { CameTo (becomes self.old.plan 0) (Write at bytes.now) (is_ok result) (memory_state self.old) (memory_state self.new) }
+        ensures unread { memory_reads self.new ≡ memory_reads self.old }
         ensures later { PlanGoesOn self.old.plan self.new.plan }
     {
         let outcome = self.begin();
@@ -86,6 +99,7 @@ impl RawMemory {
 
     fn sync_planned(&mut self) -> Result<(), DeviceFailed>
         ensures came { CameTo (becomes self.old.plan 0) Sync (is_ok result) (memory_state self.old) (memory_state self.new) }
+        ensures unread { memory_reads self.new ≡ memory_reads self.old }
         ensures later { PlanGoesOn self.old.plan self.new.plan }
     {
         match self.begin() {
@@ -99,13 +113,13 @@ impl RawMemory {
 }
 
 impl RawDisk for RawMemory {
-    ghost use Rattle.tp_disk.specs.Memory.{memory_state};
+    ghost use Rattle.tp_disk.specs.Memory.{memory_reads, memory_state};
 
     ghost size_of = { λ d. length d.bytes.items };
 
-    ghost keeps = { Unit {0} };
-
     ghost state = { memory_state };
+
+    ghost reads = { memory_reads };
 
     fn size(&self) -> u64 {
         self.bytes.len() as u64
@@ -123,7 +137,7 @@ impl RawDisk for RawMemory {
         self.sync_planned()
     }
 
-    ghost whole = { λ k d. refl };
+    ghost whole = { λ d. refl };
 }
 
 impl Counted<RawMemory> {

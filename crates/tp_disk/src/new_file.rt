@@ -1,15 +1,19 @@
 //! A file that becomes a device.
 
-ghost use Rattle.std.specs.Prelude.{◌≡◌, ◌+◌, ◌≤◌, [], ◌∷◌, ◌++◌, true, length, take, drop, is_ok, IfOk, OnOk, OnErr};
-ghost use Rattle.tp_disk.specs.Lower.{Write, Sync, Read, done, Fails, MomentPassed, unknown};
-ghost use Rattle.tp_disk.specs.File.{IsMeasured, NotMade, file_keeps, making, no_file, placing};
+ghost use Rattle.std.specs.Prelude.{◌≡◌, ◌+◌, ◌≤◌, [], ◌∷◌, ◌++◌, true, length, is_ok, IfOk, OnOk, OnErr};
+ghost use Rattle.tp_disk.specs.Lower.{Write, Sync, Read, done, Fails, MomentPassed};
+ghost use Rattle.tp_disk.specs.File.{IsMeasured, NotMade, making, placing};
 ghost use Rattle.tp_disk.specs.Filling.{GoesOn};
-ghost use Rattle.tp_disk.specs.History.{Reads, SyncsData};
+ghost use Rattle.tp_disk.specs.FileState.{begins};
+ghost use Rattle.tp_disk.specs.History.{Reads, SyncsData, all_zero};
+ghost use Rattle.tp_disk.specs.Noted.{file_reads, file_state};
+ghost use Rattle.tp_disk.specs.Reads.{answered};
 ghost use Rattle.tp_disk.specs.declared.filling.Making.TheVariants.{Done, Empties, Fills};
 
 use crate::counted::Counted;
 use crate::disk::{DeviceFailed, Disk};
 use crate::file::answer;
+use crate::file_history::FileHistory;
 use crate::filling::{Making, fill_over};
 use crate::raw::RawDisk;
 use crate::system::{NotedFile, SystemFile};
@@ -24,7 +28,7 @@ use std::{fs, io};
 #[derive(Drop)]
 pub struct NewFile<F: SystemFile + Drop> {
     file: F,
-    size: u64,
+    noted: FileHistory,
     making: Making,
     failure: Option<io::Error>,
 }
@@ -36,12 +40,14 @@ impl<F: SystemFile + Drop> NewFile<F> {
     /// Takes a file that exists and stays as it is until the first call. Then it is emptied, and takes room as it is written.
     pub fn over(file: F, size: u64) -> NewFile<F>
         ensures file { result.file ≡ file }
-        ensures size { result.size ≡ size }
+        ensures size { result.noted.size ≡ size }
+        ensures state { file_state result.noted ≡ begins all_zero size }
+        ensures reads { file_reads result.noted ≡ [] }
         ensures unmade { result.making ≡ Empties }
     {
         NewFile {
             file,
-            size,
+            noted: FileHistory::of_zeros(size),
             making: Making::Empties,
             failure: None,
         }
@@ -50,13 +56,15 @@ impl<F: SystemFile + Drop> NewFile<F> {
     /// Takes a file that exists and stays as it is until the first call. Then it gets room for all of the device, before anything of it is
     /// lost. Fails if the system doesn't tell the length.
     pub fn filled(mut file: F, size: u64) -> io::Result<NewFile<F>>
-        ensures size { IfOk result (λ new. new.size ≡ size) }
+        ensures size { IfOk result (λ new. new.noted.size ≡ size) }
+        ensures state { IfOk result (λ new. file_state new.noted ≡ begins all_zero size) }
+        ensures reads { IfOk result (λ new. file_reads new.noted ≡ []) }
         ensures measured { IfOk result (λ new. IsMeasured new.making (F.calls file) (F.calls new.file)) }
     {
         let length = file.measure()?;
         Ok(NewFile {
             file,
-            size,
+            noted: FileHistory::of_zeros(size),
             making: Making::Fills { length },
             failure: None,
         })
@@ -64,12 +72,14 @@ impl<F: SystemFile + Drop> NewFile<F> {
 
     /// Takes a file that is a device.
     fn made(file: F, size: u64) -> NewFile<F>
-        ensures size { result.size ≡ size }
+        ensures size { result.noted.size ≡ size }
+        ensures state { file_state result.noted ≡ begins all_zero size }
+        ensures reads { file_reads result.noted ≡ [] }
         ensures made { result.making ≡ Done }
     {
         NewFile {
             file,
-            size,
+            noted: FileHistory::of_zeros(size),
             making: Making::Done,
             failure: None,
         }
@@ -82,11 +92,11 @@ impl<F: SystemFile + Drop> NewFile<F> {
 
     /// Makes a device of the file if it isn't one yet.
     fn make(&mut self) -> Result<(), DeviceFailed>
-        ensures size { self.new.size ≡ self.old.size }
-        ensures made { OnOk result ((self.new.making ≡ Done) × (F.calls self.new.file ≡ F.calls self.old.file ++ making self.old.making self.old.size)) }
-        ensures failed { OnErr result ((self.new.making ≡ self.old.making) × NotMade self.old.making self.old.size (F.calls self.old.file) (F.calls self.new.file)) }
+        ensures noted { self.new.noted ≡ self.old.noted }
+        ensures made { OnOk result ((self.new.making ≡ Done) × (F.calls self.new.file ≡ F.calls self.old.file ++ making self.old.making self.old.noted.size)) }
+        ensures failed { OnErr result ((self.new.making ≡ self.old.making) × NotMade self.old.making self.old.noted.size (F.calls self.old.file) (F.calls self.new.file)) }
     {
-        let made = make_of(&mut self.file, self.making, self.size);
+        let made = make_of(&mut self.file, self.making, self.noted.size());
         answer(made, &mut self.failure)?;
         self.making = Making::Done;
         Ok(())
@@ -94,7 +104,7 @@ impl<F: SystemFile + Drop> NewFile<F> {
 
     /// Writes bytes. At the front of the device it writes all but the first byte, syncs them, and then writes the first one alone.
     fn place(&mut self, at: u64, bytes: &[u8]) -> Result<(), DeviceFailed>
-        ensures size { self.new.size ≡ self.old.size }
+        ensures noted { self.new.noted ≡ self.old.noted }
         ensures called { OnOk result (F.calls self.new.file ≡ F.calls self.old.file ++ placing at bytes.now) }
     {
         if at != 0 || bytes.is_empty() {
@@ -105,57 +115,84 @@ impl<F: SystemFile + Drop> NewFile<F> {
         answer(self.file.sync_data(), &mut self.failure)?;
         answer(self.file.write_all(0, first), &mut self.failure)
     }
-}
 
-impl<F: SystemFile + Drop> RawDisk for NewFile<F> {
-    ghost size_of = { λ d. d.size };
-
-    ghost keeps = { file_keeps };
-
-    ghost state = { λ _. unknown };
-
-    fn size(&self) -> u64 {
-        self.size
-    }
-
-    #[tactic(auto, unfolding(crate::specs::File::file_keeps))]
-    fn read(&mut self, at: u64, out: &mut [u8]) -> Result<(), DeviceFailed>
-        ensures size { self.new.size ≡ self.old.size }
-        ensures goes { file_keeps → MomentPassed unknown unknown }
-        ensures bytes { file_keeps → OnOk result (out.new ≡ take (length out.old) (drop at unknown.now.bytes)) }
-        ensures after { file_keeps → OnOk result (unknown.now ≡ done Read unknown.now) }
-        ensures failed { file_keeps → OnErr result (Fails Read unknown unknown) }
-        ensures called { OnOk result (F.calls self.new.file ≡ (F.calls self.old.file ++ making self.old.making self.old.size) ++ Reads at out.new true ∷ []) }
+    /// Reads, after it made a device of the file if it wasn't one.
+    fn read_made(&mut self, at: u64, out: &mut [u8]) -> Result<(), DeviceFailed>
+        ensures noted { self.new.noted ≡ self.old.noted }
+        ensures called { OnOk result (F.calls self.new.file ≡ (F.calls self.old.file ++ making self.old.making self.old.noted.size) ++ Reads at out.new true ∷ []) }
     {
         self.make()?;
         answer(self.file.read_all(at, out), &mut self.failure)
     }
 
-    #[tactic(auto, unfolding(crate::specs::File::file_keeps))]
-    fn write_at(&mut self, at: u64, bytes: &[u8]) -> Result<(), DeviceFailed>
-        ensures size { self.new.size ≡ self.old.size }
-        ensures goes { file_keeps → MomentPassed unknown unknown }
-        ensures after { file_keeps → OnOk result (unknown.now ≡ done (Write at bytes.now) unknown.now) }
-        ensures failed { file_keeps → OnErr result (Fails (Write at bytes.now) unknown unknown) }
-        ensures called { OnOk result (F.calls self.new.file ≡ (F.calls self.old.file ++ making self.old.making self.old.size) ++ placing at bytes.now) }
+    /// Writes, after it made a device of the file if it wasn't one.
+    fn write_made(&mut self, at: u64, bytes: &[u8]) -> Result<(), DeviceFailed>
+        ensures noted { self.new.noted ≡ self.old.noted }
+        ensures called { OnOk result (F.calls self.new.file ≡ (F.calls self.old.file ++ making self.old.making self.old.noted.size) ++ placing at bytes.now) }
     {
         self.make()?;
         self.place(at, bytes)
     }
 
-    #[tactic(auto, unfolding(crate::specs::File::file_keeps))]
-    fn sync(&mut self) -> Result<(), DeviceFailed>
-        ensures size { self.new.size ≡ self.old.size }
-        ensures goes { file_keeps → MomentPassed unknown unknown }
-        ensures after { file_keeps → OnOk result (unknown.now ≡ done Sync unknown.now) }
-        ensures failed { file_keeps → OnErr result (Fails Sync unknown unknown) }
-        ensures called { OnOk result (F.calls self.new.file ≡ (F.calls self.old.file ++ making self.old.making self.old.size) ++ SyncsData true ∷ []) }
+    /// Syncs, after it made a device of the file if it wasn't one.
+    fn sync_made(&mut self) -> Result<(), DeviceFailed>
+        ensures noted { self.new.noted ≡ self.old.noted }
+        ensures called { OnOk result (F.calls self.new.file ≡ (F.calls self.old.file ++ making self.old.making self.old.noted.size) ++ SyncsData true ∷ []) }
     {
         self.make()?;
         answer(self.file.sync_data(), &mut self.failure)
     }
+}
 
-    ghost whole = { λ k d. absurd (no_file k) };
+impl<F: SystemFile + Drop> RawDisk for NewFile<F> {
+    ghost size_of = { λ d. d.noted.size };
+
+    ghost state = { λ d. file_state d.noted };
+
+    ghost reads = { λ d. file_reads d.noted };
+
+    fn size(&self) -> u64 {
+        self.noted.size()
+    }
+
+    fn read(&mut self, at: u64, out: &mut [u8]) -> Result<(), DeviceFailed>
+        ensures size { self.new.noted.size ≡ self.old.noted.size }
+        ensures noted { file_reads self.new.noted ≡ file_reads self.old.noted ++ answered (is_ok result) at out.new (file_state self.old.noted).now.bytes }
+        ensures goes { MomentPassed (file_state self.old.noted) (file_state self.new.noted) }
+        ensures after { OnOk result ((file_state self.new.noted).now ≡ done Read (file_state self.old.noted).now) }
+        ensures failed { OnErr result (Fails Read (file_state self.old.noted) (file_state self.new.noted)) }
+        ensures called { OnOk result (F.calls self.new.file ≡ (F.calls self.old.file ++ making self.old.making self.old.noted.size) ++ Reads at out.new true ∷ []) }
+    {
+        let ended = self.read_made(at, out);
+        self.noted.has_read(at, out, ended)
+    }
+
+    fn write_at(&mut self, at: u64, bytes: &[u8]) -> Result<(), DeviceFailed>
+        requires { at + length bytes.now ≤ self.old.noted.size }
+        ensures size { self.new.noted.size ≡ self.old.noted.size }
+        ensures unread { file_reads self.new.noted ≡ file_reads self.old.noted }
+        ensures goes { MomentPassed (file_state self.old.noted) (file_state self.new.noted) }
+        ensures after { OnOk result ((file_state self.new.noted).now ≡ done (Write at bytes.now) (file_state self.old.noted).now) }
+        ensures failed { OnErr result (Fails (Write at bytes.now) (file_state self.old.noted) (file_state self.new.noted)) }
+        ensures called { OnOk result (F.calls self.new.file ≡ (F.calls self.old.file ++ making self.old.making self.old.noted.size) ++ placing at bytes.now) }
+    {
+        let ended = self.write_made(at, bytes);
+        self.noted.has_written(at, bytes, ended)
+    }
+
+    fn sync(&mut self) -> Result<(), DeviceFailed>
+        ensures size { self.new.noted.size ≡ self.old.noted.size }
+        ensures unread { file_reads self.new.noted ≡ file_reads self.old.noted }
+        ensures goes { MomentPassed (file_state self.old.noted) (file_state self.new.noted) }
+        ensures after { OnOk result ((file_state self.new.noted).now ≡ done Sync (file_state self.old.noted).now) }
+        ensures failed { OnErr result (Fails Sync (file_state self.old.noted) (file_state self.new.noted)) }
+        ensures called { OnOk result (F.calls self.new.file ≡ (F.calls self.old.file ++ making self.old.making self.old.noted.size) ++ SyncsData true ∷ []) }
+    {
+        let ended = self.sync_made();
+        self.noted.has_synced(ended)
+    }
+
+    ghost whole = { λ d. d.noted.whole };
 }
 
 /// Empties a file, and gives it its length: it takes room as it is written.
@@ -210,6 +247,8 @@ impl<F: FileExt + OpenFile + Drop> Counted<NewFile<NotedFile<F>>> {
     /// the file can't be made whole, it is removed.
     pub fn create_new<R: Files<File = F>>(rt: &R, path: &str, size: u64) -> io::Result<NewDisk<F>>
         ensures size { IfOk result (λ disk. ⟦<NewDisk<F> as Disk>⟧.size_of disk ≡ size) }
+        ensures state { IfOk result (λ disk. ⟦<NewDisk<F> as Disk>⟧.state disk ≡ begins all_zero size) }
+        ensures reads { IfOk result (λ disk. ⟦<NewDisk<F> as Disk>⟧.reads disk ≡ []) }
         ensures failures { IfOk result (λ disk. ⟦<NewDisk<F> as Disk>⟧.failures_of disk ≡ 0) }
     {
         let mut how = OpenOptions::new();
@@ -228,6 +267,8 @@ impl<F: FileExt + OpenFile + Drop> Counted<NewFile<NotedFile<F>>> {
     /// does.
     pub fn create_over<R: Files<File = F>>(rt: &R, path: &str, size: u64) -> io::Result<NewDisk<F>>
         ensures size { IfOk result (λ disk. ⟦<NewDisk<F> as Disk>⟧.size_of disk ≡ size) }
+        ensures state { IfOk result (λ disk. ⟦<NewDisk<F> as Disk>⟧.state disk ≡ begins all_zero size) }
+        ensures reads { IfOk result (λ disk. ⟦<NewDisk<F> as Disk>⟧.reads disk ≡ []) }
         ensures failures { IfOk result (λ disk. ⟦<NewDisk<F> as Disk>⟧.failures_of disk ≡ 0) }
     {
         let file = OpenOptions::new().read(true).write(true).open(rt, path)?;
@@ -237,6 +278,8 @@ impl<F: FileExt + OpenFile + Drop> Counted<NewFile<NotedFile<F>>> {
     /// Makes a device of `size` bytes in a new file, or over the file of that path if there is one. Fails as the system does.
     pub fn create<R: Files<File = F>>(rt: &R, path: &str, size: u64) -> io::Result<NewDisk<F>>
         ensures size { IfOk result (λ disk. ⟦<NewDisk<F> as Disk>⟧.size_of disk ≡ size) }
+        ensures state { IfOk result (λ disk. ⟦<NewDisk<F> as Disk>⟧.state disk ≡ begins all_zero size) }
+        ensures reads { IfOk result (λ disk. ⟦<NewDisk<F> as Disk>⟧.reads disk ≡ []) }
         ensures failures { IfOk result (λ disk. ⟦<NewDisk<F> as Disk>⟧.failures_of disk ≡ 0) }
     {
         match NewDisk::create_new(rt, path, size) {

@@ -1,6 +1,6 @@
 //! Writing through to the device.
 
-ghost use Rattle.std.specs.Prelude.{◌+◌, ◌≤◌, [], ◌∷◌, length, is_ok, OnOk, OnErr};
+ghost use Rattle.std.specs.Prelude.{◌≡◌, ◌+◌, ◌≤◌, [], ◌∷◌, length, is_ok, OnOk, OnErr};
 ghost use Rattle.tp_disk.specs.Lower.{MayBe, Write, Sync, within, Counts, LeavesOnly, Called, Broke};
 
 use crate::disk::{DeviceFailed, Disk};
@@ -12,9 +12,10 @@ use crate::disk::{DeviceFailed, Disk};
 pub fn write_through<D: Disk>(disk: &mut D, at: u64, bytes: &[u8]) -> Result<(), DeviceFailed>
     requires { at + length bytes.now ≤ D.size_of disk.old }
     ensures counts { Counts (is_ok result) (D.size_of disk.old) (D.size_of disk.new) (D.failures_of disk.old) (D.failures_of disk.new) }
-    ensures called { D.keeps → OnOk result (Called (Write at bytes.now ∷ Sync ∷ []) (D.state disk.old) (D.state disk.new)) }
-    ensures broke { D.keeps → OnErr result (Broke (Write at bytes.now ∷ Sync ∷ []) (D.state disk.old) (D.state disk.new)) }
-    ensures any_moment { D.keeps → LeavesOnly (D.state disk.old) (D.state disk.new) (MayBe (within (Write at bytes.now) (D.state disk.old).now)) }
+    ensures unread { D.reads disk.new ≡ D.reads disk.old }
+    ensures called { OnOk result (Called (Write at bytes.now ∷ Sync ∷ []) (D.state disk.old) (D.state disk.new)) }
+    ensures broke { OnErr result (Broke (Write at bytes.now ∷ Sync ∷ []) (D.state disk.old) (D.state disk.new)) }
+    ensures any_moment { LeavesOnly (D.state disk.old) (D.state disk.new) (MayBe (within (Write at bytes.now) (D.state disk.old).now)) }
 {
     disk.write_at(at, bytes)?;
     disk.sync()

@@ -1,6 +1,6 @@
 -- Parts of a turn, one after the other.
 use Rattle.std.proofs.Common.{◌≡◌, ℕ, ◌≤◌, ◌+◌, inr, sym, subst, refl, ◌∙◌, ap, Bool, true, false, Result, Ok, Err, arith}
-use Rattle.tp_flush.proofs.Lower.{NodeState, IsFrozenAs, Network, t414, State, device_areas, Walks, Resting, World, Place}
+use Rattle.tp_flush.proofs.Lower.{AreTrue, same_kept, NodeState, IsFrozenAs, Network, t414, State, device_areas, Walks, Resting, World, Place}
 use Rattle.tp_flush.specs.declared.fault.FlushFault.{FlushFault}
 use Rattle.tp_flush.specs.declared.fault.FlushFault.TheVariants.{AreaFull, DeviceFailed, Memory, StoreBroken}
 use Rattle.tp_flush.specs.declared.progress.Progress.{Progress}
@@ -11,27 +11,33 @@ use Rattle.tp_flush.proofs.Kept.{looked_walks}
 use Rattle.tp_flush.proofs.Endings.{failed_then, looked_waits, waits_still, waits_then}
 use Rattle.tp_flush.proofs.Turns.{walked_nowhere, walked_then}
 
-module _ (keeps : Type 0) (start : Network NodeState) (before : World NodeState) where
-  pub goes_still : (a : Flushing) → (keeps → a.world.disk ≡ a.state.now) → FlushedOn keeps start before a a
-  goes_still a was = record { walks = λ k began. walked_nowhere a (was k); process = record { opened = refl; size = refl; topology = refl } }
+module _ (start : Network NodeState) (before : World NodeState) where
+  pub goes_still : (a : Flushing) → (AreTrue a.reads → a.world.disk ≡ a.state.now) → FlushedOn start before a a
+  goes_still a was = record { premise = λ are. are; walks = λ k began. walked_nowhere a (was k); process = record { opened = refl; size = refl; topology = refl } }
 
   -- the world of the device stayed as it was
-  pub goes_marked : (a b : Flushing) → (keeps → a.world.disk ≡ a.state.now) → b.world ≡ a.world → b.state ≡ a.state → IsSameProcess a b → FlushedOn keeps start before a b
-  goes_marked a b was world state P = record {
+  pub goes_marked : (a b : Flushing) → (AreTrue a.reads → a.world.disk ≡ a.state.now) → b.world ≡ a.world → b.state ≡ a.state → b.reads ≡ a.reads → IsSameProcess a b → FlushedOn start before a b
+  goes_marked a b was world state reads P = record {
+    premise = same_kept a.reads b.reads reads;
     walks = λ k began.
-        subst (λ (v : World NodeState). Walks t414 device_areas a.world v a.state b.state) (sym world) (subst (λ (s : State). Walks t414 device_areas a.world a.world a.state s) (sym state) (walked_nowhere a (was k)));
+        subst (λ (v : World NodeState). Walks t414 device_areas a.world v a.state b.state) (sym world) (subst (λ (s : State). Walks t414 device_areas a.world a.world a.state s) (sym state) (walked_nowhere a (was (same_kept a.reads b.reads reads k))));
     process = P;
   }
 
-  pub goes_looked : (a b : Flushing) → (keeps → a.world.disk ≡ a.state.now) → OnlyLooked a b → FlushedOn keeps start before a b
-  goes_looked a b was L = record { walks = λ k began. looked_walks a b (was k) L; process = record { opened = L.opened; size = L.size; topology = L.topology } }
+  pub goes_looked : (a b : Flushing) → (AreTrue a.reads → a.world.disk ≡ a.state.now) → OnlyLooked a b → FlushedOn start before a b
+  goes_looked a b was L = record {
+    premise = same_kept a.reads b.reads L.reads;
+    walks = λ k began. looked_walks a b (was (same_kept a.reads b.reads L.reads k)) L;
+    process = record { opened = L.opened; size = L.size; topology = L.topology };
+  }
 
-  pub goes_then : (a b c : Flushing) → FlushedOn keeps start before a b → FlushedOn keeps start before b c → FlushedOn keeps start before a c
+  pub goes_then : (a b c : Flushing) → FlushedOn start before a b → FlushedOn start before b c → FlushedOn start before a c
   goes_then a b c first then =
       let P = first.process in
       let Q = then.process in
       record {
-        walks = λ k began. walked_then a b c (first.walks k began) (then.walks k (subst (Began start before) (sym P.opened) began));
+        premise = λ k. first.premise (then.premise k);
+        walks = λ k began. walked_then a b c (first.walks (then.premise k) began) (then.walks k (subst (Began start before) (sym P.opened) began));
         process = record { opened = Q.opened ∙ P.opened; size = Q.size ∙ P.size; topology = Q.topology ∙ P.topology };
       }
 

@@ -1,7 +1,7 @@
 -- What the flusher keeps as it reads the book, and as it raises the mark.
 use Rattle.std.proofs.Common.{◌≡◌, ℕ, ◌+◌, ◌<◌, ◌≤◌, List, ◌++◌, length, refl, sym, ap, subst, ◌∙◌, Bool, arith, length-drop, ◌-◌}
 use Rattle.std.specs.Prelude.{drop, max}
-use Rattle.tp_flush.proofs.Lower.{AllByRecursion, Entry, NUMBER_LIMIT, IsSpelt, NodeState, t414, Network, Topology, MarkedNetwork, State, moment, Resting, device_areas, numbered, World, RunLeads, Walks, Place, unnumbered, length-entries, run_then, still_walks, RaiserValue, risen, Told, IsFirst, ToldSince}
+use Rattle.tp_flush.proofs.Lower.{Reading, AllByRecursion, Entry, NUMBER_LIMIT, IsSpelt, NodeState, t414, Network, Topology, MarkedNetwork, State, moment, Resting, device_areas, numbered, World, RunLeads, Walks, Place, unnumbered, length-entries, run_then, still_walks, RaiserValue, risen, Told, IsFirst, ToldSince}
 use Rattle.tp_flush.specs.declared.progress.Progress.{Progress}
 use Rattle.tp_flush.specs.Known.{Began, Known, Reached}
 use Rattle.tp_flush.specs.Flushing.{Flushing, IsBacklog, KeepsWorld, OnlyLooked, Walked}
@@ -23,15 +23,16 @@ looked_walks a b was L =
     subst (λ (s : State). Walks t414 device_areas a.world b.world a.state s) (sym L.state) (still_walks t414 device_areas a.world b.world a.state L.led (L.disk ∙ was))
 
 -- the flusher reads the book, and then knows more of it
-pub learned_looked : (w : World NodeState) (old now : Told) (first : IsFirst old w) (since : ToldSince old now) (s : State) (size failures : ℕ) (opened : List ℕ) (place : Place) (t : Topology) (progress : Progress)
-    → OnlyLooked (record { world = w; state = s; size = size; failures = failures; opened = opened; place = place; topology = t; progress = progress; frozen = old.frozen })
-    (record { world = learned w now; state = s; size = size; failures = failures; opened = opened; place = place; topology = t; progress = progress; frozen = now.frozen })
-learned_looked w old now first since s size failures opened place t progress = record {
+pub learned_looked : (w : World NodeState) (old now : Told) (first : IsFirst old w) (since : ToldSince old now) (s : State) (reads : List Reading) (size failures : ℕ) (opened : List ℕ) (place : Place) (t : Topology) (progress : Progress)
+    → OnlyLooked (record { world = w; state = s; reads = reads; size = size; failures = failures; opened = opened; place = place; topology = t; progress = progress; frozen = old.frozen })
+    (record { world = learned w now; state = s; reads = reads; size = size; failures = failures; opened = opened; place = place; topology = t; progress = progress; frozen = now.frozen })
+learned_looked w old now first since s reads size failures opened place t progress = record {
   led = learns w old now first since;
   at = refl;
   stored = refl;
   disk = refl;
   state = refl;
+  reads = refl;
   size = refl;
   failures = refl;
   opened = refl;

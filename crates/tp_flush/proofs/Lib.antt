@@ -30,3 +30,4 @@ mod Rooms
 mod Forms
 mod Breaking
 pub mod Follows
+pub mod Weaker

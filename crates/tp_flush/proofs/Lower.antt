@@ -101,6 +101,8 @@ pub use Rattle.tp_book.specs.Opened.{kept_entries, now_of, opened_book}
 pub use Rattle.tp_book.specs.declared.refusal.Refusal.{Refusal}
 pub use Rattle.tp_book.specs.declared.state.NetState.{NetState}
 pub use Rattle.tp_disk.proofs.Calls.{and_then, weaker}
+pub use Rattle.tp_disk.proofs.Readings.{same_kept}
+pub use Rattle.tp_disk.specs.Reads.{AreTrue, Reading, WereTrue}
 pub use Rattle.tp_area.proofs.Behind.{CanBeAppended, can_be_appended, length-body, length-entries}
 pub use Rattle.tp_area.proofs.Filling.{same_after, tail_fits}
 pub use Rattle.tp_area.proofs.Frames.{gate_same}

@@ -1,6 +1,6 @@
 -- What contracts see of the flusher, what it keeps, and what it did.
 use Rattle.std.specs.Prelude.{◌≡◌, ◌<◌, ◌≤◌, ℕ, ◌+◌, Bool, true, false, if◌then◌else◌, List, length, get_or, Option, Some, Ok}
-use Rattle.tp_flush.specs.Lower.{AllByRecursion, TwoAreas, Entry, Form, HeadVersion, NUMBER_LIMIT, IsSpelt, is_of, NodeState, t414, Network, Topology, is_roomy, room, head_of, State, Position, Resting, Broken, device_areas, numbered, World, RunLeads, Walks, RaiserValue, Place, unnumbered, OtherIsClosed, content_beside, MarkedNetwork, CutSpelt}
+use Rattle.tp_flush.specs.Lower.{AllByRecursion, TwoAreas, Entry, Form, HeadVersion, NUMBER_LIMIT, IsSpelt, is_of, NodeState, t414, Network, Topology, is_roomy, room, head_of, State, Position, Resting, Broken, device_areas, numbered, World, RunLeads, Walks, RaiserValue, Place, unnumbered, OtherIsClosed, content_beside, MarkedNetwork, CutSpelt, AreTrue, Reading, WereTrue}
 use Rattle.tp_flush.specs.Copying.{IsGone, IsPartOut}
 use Rattle.tp_flush.specs.Progress.{is_out}
 use Rattle.tp_flush.specs.declared.progress.Progress.{Progress}
@@ -9,7 +9,7 @@ use Rattle.tp_flush.specs.Risen.{HaveRisen}
 
 -- What contracts see of the flusher:
 -- - the world as the flusher knows it;
--- - what has become of its device, how many bytes that has, and how many of its calls have failed;
+-- - what has become of its device, which of its reads were answered, how many bytes it has, and how many of its calls have failed;
 -- - the bytes that this process opened;
 -- - the place of the next group, in the open area;
 -- - the device's topology, and how far the copy of the snapshot that runs has come;
@@ -17,6 +17,7 @@ use Rattle.tp_flush.specs.Risen.{HaveRisen}
 pub record Flushing : Type 0 where
   pub world : World NodeState
   pub state : State
+  pub reads : List Reading
   pub size : ℕ
   pub failures : ℕ
   pub opened : List ℕ
@@ -82,6 +83,7 @@ pub record OnlyLooked (old new : Flushing) : Type 0 where
   pub stored : new.world.stored ≡ old.world.stored
   pub disk : new.world.disk ≡ old.world.disk
   pub state : new.state ≡ old.state
+  pub reads : new.reads ≡ old.reads
   pub size : new.size ≡ old.size
   pub failures : new.failures ≡ old.failures
   pub opened : new.opened ≡ old.opened
@@ -105,6 +107,7 @@ pub record IsBacklog (w : World NodeState) (entries : List (Entry × ℕ)) (upto
 
 -- If this process opened what a run had led to, each moment of the device since is that of a world on the way of one run. The process and
 -- its device stay what they are.
-pub record FlushedOn (keeps : Type 0) (start : Network NodeState) (before : World NodeState) (old new : Flushing) : Type 0 where
-  pub walks : keeps → Began start before old.opened → Walked old new
+pub record FlushedOn (start : Network NodeState) (before : World NodeState) (old new : Flushing) : Type 0 where
+  pub premise : WereTrue old.reads new.reads
+  pub walks : AreTrue new.reads → Began start before old.opened → Walked old new
   pub process : IsSameProcess old new

@@ -45,6 +45,7 @@ pub use Rattle.tp_book.specs.PortParts.{port_made}
 pub use Rattle.tp_book.specs.Refusals.{IsAnswer}
 pub use Rattle.tp_book.specs.declared.refusal.Refusal.{Refusal}
 pub use Rattle.tp_book.specs.declared.refusal.Refusal.TheVariants.{JournalFull, Memory, NothingToTake, PortFull, SnapshotRunning, StoreBroken}
+pub use Rattle.tp_disk.specs.Reads.{AreTrue, Reading, WereTrue}
 pub use Rattle.tp_area.specs.Appended.{unnumbered}
 pub use Rattle.tp_area.specs.Other.{OtherIsClosed, Switched, other_gate}
 pub use Rattle.tp_area.specs.Pieces.{piece_place, place_in_image}
@@ -57,6 +58,7 @@ pub use Rattle.tp_ready.specs.declared.mark_view.Rise.{Rise}
 pub use Rattle.tp_shared.specs.Below.{AreBelow}
 pub use Rattle.tp_shared.specs.CopiedTail.{CopiedTail}
 pub use Rattle.tp_shared.specs.Frozen.{keeps_pages, none_kept}
+pub use Rattle.tp_shared.specs.HandedIn.{handed}
 pub use Rattle.tp_shared.specs.Parted.{PartsValue}
 pub use Rattle.tp_shared.specs.Pieces.{AreFrozenPages, IsFrozenHead}
 pub use Rattle.tp_shared.specs.Told.{IsFirst, ToldSince}

@@ -1,6 +1,7 @@
 //! What the flusher knows, compared with the book as it is.
 
 ghost use Rattle.std.specs.Prelude.{◌≡◌};
+ghost use Rattle.tp_disk.specs.Reads.{AreTrue};
 ghost use Rattle.tp_flush.specs.Ahead.{IsAheadOf};
 ghost use Rattle.tp_flush.specs.Flushing.{position};
 ghost use Rattle.tp_flush.specs.Known.{Began};
@@ -17,7 +18,7 @@ impl<J: Naming, D: Disk> Flusher<J, D> {
     ///   mends it.
     pub fn settle_book(&mut self, held: &mut Locked<J>)
         ensures same { (self.new ≡ self.old) × (held.new ≡ held.old) }
-        ensures ahead { D.keeps → Began J.formatted J.before self.old.opened → IsAheadOf J.formatted self.old.world held.old.book }
+        ensures ahead { AreTrue self.new.reads → Began J.formatted J.before self.old.opened → IsAheadOf J.formatted self.old.world held.old.book }
         ensures broken { self.old.world.at ≡ position held.old.book.broken }
     {
         self.known();

@@ -63,7 +63,7 @@ impl<J: Naming, D: Disk> Flusher<J, D> {
         ensures imaged { IfOk result (λ done. done.switched ≡ false → ImagedIn (length J.start.nodes) done.images looked.old looked.new self.old self.new) }
         ensures gone { IfOk result (λ done. done.switched ≡ true → (i : ℕ) → keeps_pages self.new.frozen i ≡ false) }
         ensures unswitched { IfOk result (λ done. done.switched ≡ false → WhyUnswitched done.unswitched done.images self.new) }
-        ensures goes { FlushedOn D.keeps J.formatted J.before self.old self.new }
+        ensures goes { FlushedOn J.formatted J.before self.old self.new }
     {
         self.known();
         let Some(look) = look(rt, shared, looked) else {

@@ -1,7 +1,7 @@
 //! The flusher drops the frozen pages of a node.
 
 ghost use Rattle.std.specs.Prelude.{◌≡◌, ◌<◌, true, length, get_or};
-ghost use Rattle.tp_flush.specs.Lower.{Resting, content_beside};
+ghost use Rattle.tp_flush.specs.Lower.{AreTrue, Resting, content_beside};
 ghost use Rattle.tp_flush.specs.Copying.{HasRecorded, IsPartOut};
 ghost use Rattle.tp_flush.specs.Progress.{is_out, with_out};
 ghost use Rattle.tp_flush.specs.Flushing.{FlushedOn};
@@ -19,12 +19,12 @@ impl<J: Naming, D: Disk> Flusher<J, D> {
         requires rests { self.old.world.at ≡ Resting }
         requires node { node < length self.old.topology.pages }
         requires there { node < length J.start.nodes }
-        requires stands { D.keeps → IsPartOut self.old.topology self.old.world.net (content_beside self.old.place self.old.state) node (get_or self.old.topology.pages node 0) }
+        requires stands { AreTrue self.old.reads → IsPartOut self.old.topology self.old.world.net (content_beside self.old.place self.old.state) node (get_or self.old.topology.pages node 0) }
         requires recorded { HasRecorded self.old.world.net node }
         ensures went { NothingStored self.old self.new }
         ensures out { self.new.progress ≡ with_out self.old.progress node }
         ensures is { is_out self.new.progress node ≡ true }
-        ensures goes { FlushedOn D.keeps J.formatted J.before self.old self.new }
+        ensures goes { FlushedOn J.formatted J.before self.old self.new }
     {
         self.drop_pages(rt, shared, node);
         self.put_out(node as usize);

@@ -1,7 +1,7 @@
 //! The flusher.
 
 ghost use Rattle.std.specs.Prelude.{◌≡◌, Ok, Some, true, false};
-ghost use Rattle.tp_flush.specs.Lower.{AllByRecursion, IsNodeOfBytes, IsSynced, is_roomy, room, t414_ends, held_of, next_of, verdict, reopened, IsCut, unrisen, IsFirst};
+ghost use Rattle.tp_flush.specs.Lower.{AreTrue, AllByRecursion, IsNodeOfBytes, IsSynced, is_roomy, room, t414_ends, held_of, next_of, verdict, reopened, IsCut, unrisen, IsFirst};
 ghost use Rattle.tp_flush.specs.Known.{Began, Reached};
 ghost use Rattle.tp_flush.specs.Flushing.{AreGone, position};
 
@@ -45,15 +45,15 @@ pub struct Flusher<J: Naming, D: Disk> {
 
 impl<J: Naming, D: Disk> Model for Flusher<J, D> {
     ghost use Rattle.std.specs.Prelude.{◌≡◌, ◌≤◌};
-    ghost use Rattle.tp_shared.specs.Told.{IsFirst};
+    ghost use Rattle.tp_flush.specs.Lower.{AreTrue, IsFirst};
     ghost use Rattle.tp_flush.specs.Flushing.{AreGone, KeepsCopy, Flushing, HoldsAllOf, IsOfDevice, KeepsWorld};
     ghost use Rattle.tp_flush.specs.WasTold.{ToldWhere};
 
     ghost Value = { Flushing };
 
-    ghost view = { λ f. record { world = f.parts.whole.known.world; state = D.state f.parts.store.disk; size = D.size_of f.parts.store.disk; failures = D.failures_of f.parts.store.disk; opened = f.parts.whole.known.opened; place = f.parts.store.place; topology = f.parts.topology; progress = f.parts.progress; frozen = f.parts.key.value.frozen } };
+    ghost view = { λ f. record { world = f.parts.whole.known.world; state = D.state f.parts.store.disk; reads = D.reads f.parts.store.disk; size = D.size_of f.parts.store.disk; failures = D.failures_of f.parts.store.disk; opened = f.parts.whole.known.opened; place = f.parts.store.place; topology = f.parts.topology; progress = f.parts.progress; frozen = f.parts.key.value.frozen } };
 
-    ghost invariant = { λ f. (f.parts.key.name ≡ J.flusher) × (f.parts.raiser.mark ≡ J.mark) × IsFirst f.parts.key.value f.parts.whole.known.world × KeepsWorld D.keeps J.formatted J.before f.parts.whole.known (D.state f.parts.store.disk) f.parts.store.place f.parts.store.broken f.parts.raiser × KeepsCopy D.keeps f.parts.whole.known.world.net (D.state f.parts.store.disk) f.parts.store.place f.parts.store.broken f.parts.topology f.parts.progress × IsOfDevice D.keeps J.room f.parts.whole.known.world (D.state f.parts.store.disk) f.parts.store.place f.parts.store.broken f.parts.topology × (J.first ≤ f.parts.whole.known.world.stored) × (f.parts.key.value.numbered_from ≤ f.parts.whole.known.world.stored) × HoldsAllOf f.parts.store.place.form f.parts.key.value.form × ToldWhere f.parts.store.broken f.parts.key.value f.told × AreGone f.parts.whole.known.world.net f.parts.key.value.frozen f.parts.progress };
+    ghost invariant = { λ f. (f.parts.key.name ≡ J.flusher) × (f.parts.raiser.mark ≡ J.mark) × IsFirst f.parts.key.value f.parts.whole.known.world × KeepsWorld (AreTrue (D.reads f.parts.store.disk)) J.formatted J.before f.parts.whole.known (D.state f.parts.store.disk) f.parts.store.place f.parts.store.broken f.parts.raiser × KeepsCopy (AreTrue (D.reads f.parts.store.disk)) f.parts.whole.known.world.net (D.state f.parts.store.disk) f.parts.store.place f.parts.store.broken f.parts.topology f.parts.progress × IsOfDevice (AreTrue (D.reads f.parts.store.disk)) J.room f.parts.whole.known.world (D.state f.parts.store.disk) f.parts.store.place f.parts.store.broken f.parts.topology × (J.first ≤ f.parts.whole.known.world.stored) × (f.parts.key.value.numbered_from ≤ f.parts.whole.known.world.stored) × HoldsAllOf f.parts.store.place.form f.parts.key.value.form × ToldWhere f.parts.store.broken f.parts.key.value f.told × AreGone f.parts.whole.known.world.net f.parts.key.value.frozen f.parts.progress };
 }
 
 impl<J: Naming, D: Disk> Flusher<J, D> {
@@ -75,8 +75,8 @@ impl<J: Naming, D: Disk> Flusher<J, D> {
         requires whole { key.value.broken ≡ false }
         requires next { store.place.next ≡ next_of opened.value }
         requires raiser { raiser ≡ record { mark = J.mark; at = next_of opened.value; rises = unrisen (next_of opened.value) } }
-        requires read { D.keeps → verdict (D.state store.disk).now.bytes ≡ Ok opened.value }
-        requires synced { D.keeps → IsSynced (D.state store.disk) }
+        requires read { AreTrue (D.reads store.disk) → verdict (D.state store.disk).now.bytes ≡ Ok opened.value }
+        requires synced { AreTrue (D.reads store.disk) → IsSynced (D.state store.disk) }
         requires topology { topology ≡ opened.value.head.topology }
         requires areas { store.place.areas ≡ opened.value.head.areas }
         requires roomy { is_roomy opened.value.head.topology opened.value.head.areas.length ≡ true }
@@ -87,7 +87,7 @@ impl<J: Naming, D: Disk> Flusher<J, D> {
         ensures world { result.world ≡ reopened J.before (D.state store.disk).now.bytes (held_of opened.value) opened.value.now }
         ensures opened { result.opened ≡ (D.state store.disk).now.bytes }
         ensures place { (result.place ≡ store.place) × (result.topology ≡ topology) }
-        ensures device { (result.state ≡ D.state store.disk) × (result.size ≡ D.size_of store.disk) × (result.failures ≡ D.failures_of store.disk) }
+        ensures device { (result.state ≡ D.state store.disk) × (result.reads ≡ D.reads store.disk) × (result.size ≡ D.size_of store.disk) × (result.failures ≡ D.failures_of store.disk) }
     {
         let _ = opened;
         let both = (store, key);
@@ -110,8 +110,8 @@ impl<J: Naming, D: Disk> Flusher<J, D> {
     /// Proves what every flusher keeps. A run leads to its world, from the device that was formatted, and its device is that world's. A
     /// node whose image is out has no kept pages. The function does nothing.
     pub fn known(&self)
-        ensures reached { D.keeps → Began J.formatted J.before self.now.opened → Reached J.formatted self.now.world }
-        ensures disk { D.keeps → self.now.world.disk ≡ self.now.state.now }
+        ensures reached { AreTrue self.now.reads → Began J.formatted J.before self.now.opened → Reached J.formatted self.now.world }
+        ensures disk { AreTrue self.now.reads → self.now.world.disk ≡ self.now.state.now }
         ensures gone { AreGone self.now.world.net self.now.frozen self.now.progress }
     {
         let _ = &self.parts;
@@ -134,6 +134,7 @@ impl<J: Naming, D: Disk> Flusher<J, D> {
     /// Gives the device. It must be opened again before it is written.
     pub fn into_disk(self) -> D
         ensures state { D.state result ≡ self.state }
+        ensures reads { D.reads result ≡ self.reads }
         ensures size { D.size_of result ≡ self.size }
         ensures failures { D.failures_of result ≡ self.failures }
     {

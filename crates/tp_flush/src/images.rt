@@ -1,7 +1,7 @@
 //! The flusher copies the frozen images of a snapshot, some pages in each hold of the locks.
 
 ghost use Rattle.std.specs.Prelude.{◌≡◌, ◌+◌, ◌*◌, ◌<◌, ◌≤◌, ℕ, [], true, false, flat_map, length, get_or, IfOk};
-ghost use Rattle.tp_flush.specs.Lower.{MAX_NODES, MAX_PAGES, PAGE_BYTES, Resting, content_beside, piece_place};
+ghost use Rattle.tp_flush.specs.Lower.{AreTrue, MAX_NODES, MAX_PAGES, PAGE_BYTES, Resting, content_beside, piece_place};
 ghost use Rattle.tp_flush.specs.Copying.{HasRecorded, IsPartOut};
 ghost use Rattle.tp_flush.specs.Progress.{is_out};
 ghost use Rattle.tp_flush.specs.Flushing.{FlushedOn};
@@ -77,9 +77,9 @@ impl<J: Naming, D: Disk> Flusher<J, D> {
         requires free { is_out self.old.progress node ≡ false }
         ensures tried { Tried result self.old self.new }
         ensures same { self.new.progress ≡ self.old.progress }
-        ensures stands { D.keeps → IfOk result (λ found. found ≡ true → IsPartOut self.new.topology self.new.world.net (content_beside self.new.place self.new.state) node 0) }
+        ensures stands { AreTrue self.new.reads → IfOk result (λ found. found ≡ true → IsPartOut self.new.topology self.new.world.net (content_beside self.new.place self.new.state) node 0) }
         ensures recorded { IfOk result (λ found. found ≡ true → HasRecorded self.new.world.net node) }
-        ensures goes { FlushedOn D.keeps J.formatted J.before self.old self.new }
+        ensures goes { FlushedOn J.formatted J.before self.old self.new }
     {
         let mut head = [0; IMAGE_HEAD_BYTES];
         if !self.read_head(rt, shared, node, &mut head) {
@@ -110,11 +110,11 @@ impl<J: Naming, D: Disk> Flusher<J, D> {
         requires few { first + length pages.old ≤ MAX_PAGES }
         requires some { (0 < length pages.old) × (length pages.old ≤ PAGES_A_HOLD) }
         requires free { is_out self.old.progress node ≡ false }
-        requires stands { D.keeps → IsPartOut self.old.topology self.old.world.net (content_beside self.old.place self.old.state) node first }
+        requires stands { AreTrue self.old.reads → IsPartOut self.old.topology self.old.world.net (content_beside self.old.place self.old.state) node first }
         ensures tried { Tried result self.old self.new }
         ensures same { self.new.progress ≡ self.old.progress }
-        ensures stands { D.keeps → IfOk result (λ found. found ≡ true → IsPartOut self.new.topology self.new.world.net (content_beside self.new.place self.new.state) node (first + length pages.old)) }
-        ensures goes { FlushedOn D.keeps J.formatted J.before self.old self.new }
+        ensures stands { AreTrue self.new.reads → IfOk result (λ found. found ≡ true → IsPartOut self.new.topology self.new.world.net (content_beside self.new.place self.new.state) node (first + length pages.old)) }
+        ensures goes { FlushedOn J.formatted J.before self.old self.new }
     {
         if self.read_pages(rt, shared, node, first, pages) < pages.len() {
             return Ok(false);
@@ -143,9 +143,9 @@ impl<J: Naming, D: Disk> Flusher<J, D> {
         requires free { is_out self.old.progress node ≡ false }
         ensures tried { Tried result self.old self.new }
         ensures same { self.new.progress ≡ self.old.progress }
-        ensures stands { D.keeps → IfOk result (λ found. found ≡ true → IsPartOut self.new.topology self.new.world.net (content_beside self.new.place self.new.state) node (get_or self.new.topology.pages node 0)) }
+        ensures stands { AreTrue self.new.reads → IfOk result (λ found. found ≡ true → IsPartOut self.new.topology self.new.world.net (content_beside self.new.place self.new.state) node (get_or self.new.topology.pages node 0)) }
         ensures recorded { IfOk result (λ found. found ≡ true → HasRecorded self.new.world.net node) }
-        ensures goes { FlushedOn D.keeps J.formatted J.before self.old self.new }
+        ensures goes { FlushedOn J.formatted J.before self.old self.new }
     {
         if !self.copy_head(rt, shared, node, image)? {
             return Ok(false);
@@ -182,7 +182,7 @@ impl<J: Naming, D: Disk> Flusher<J, D> {
         ensures tried { Tried result self.old self.new }
         ensures imaged { IfOk result (λ done. NodeImaged done (get_or look.now.recorded node false) node self.old.progress self.new.progress) }
         ensures stay { StayOut self.old.progress self.new.progress }
-        ensures goes { FlushedOn D.keeps J.formatted J.before self.old self.new }
+        ensures goes { FlushedOn J.formatted J.before self.old self.new }
     {
         self.known();
         if self.is_out(node as usize) {
@@ -221,7 +221,7 @@ impl<J: Naming, D: Disk> Flusher<J, D> {
         requires cleared { self.old.progress.cleared ≡ true }
         ensures tried { Tried result self.old self.new }
         ensures imaged { IfOk result (λ images. Imaged true (λ i. get_or look.now.recorded i false) (length J.start.nodes) (length self.new.topology.pages) images self.old.progress self.new.progress) }
-        ensures goes { FlushedOn D.keeps J.formatted J.before self.old self.new }
+        ensures goes { FlushedOn J.formatted J.before self.old self.new }
     {
         self.known();
         let count = self.nodes().min(shared.nodes() as usize);

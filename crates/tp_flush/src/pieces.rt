@@ -1,7 +1,7 @@
 //! The flusher writes a frozen image into the other area, a run of its bytes at a time.
 
 ghost use Rattle.std.specs.Prelude.{◌≡◌, ◌+◌, ◌<◌, ◌≤◌, true, false, length, get_or, IfOk};
-ghost use Rattle.tp_flush.specs.Lower.{piece_place, content_beside, written, AreFrozenPages, IsFrozenHead, keeps_pages, image_length, Resting};
+ghost use Rattle.tp_flush.specs.Lower.{AreTrue, piece_place, content_beside, written, AreFrozenPages, IsFrozenHead, keeps_pages, image_length, Resting};
 ghost use Rattle.tp_flush.specs.Copying.{IsGone, IsPartOut};
 ghost use Rattle.tp_flush.specs.Progress.{is_out, with_out};
 ghost use Rattle.tp_flush.specs.Flushing.{FlushedOn};
@@ -23,7 +23,7 @@ impl<J: Naming, D: Disk> Flusher<J, D> {
     pub(crate) fn clear<R: Wait>(&mut self, rt: &R, shared: &Shared<J>) -> Result<(), FlushFault>
         requires rests { self.old.world.at ≡ Resting }
         ensures tried { Tried result self.old self.new }
-        ensures goes { FlushedOn D.keeps J.formatted J.before self.old self.new }
+        ensures goes { FlushedOn J.formatted J.before self.old self.new }
         ensures cleared { self.new.progress.cleared ≡ true }
         ensures out { self.new.progress.out ≡ self.old.progress.out }
     {
@@ -58,9 +58,9 @@ impl<J: Naming, D: Disk> Flusher<J, D> {
         requires free { is_out self.old.progress node ≡ false }
         ensures tried { Tried result self.old self.new }
         ensures same { (self.new.world.net ≡ self.old.world.net) × (self.new.progress ≡ self.old.progress) }
-        ensures room { D.keeps → image + inner + length bytes.now ≤ length (content_beside self.old.place self.old.state) }
-        ensures content { D.keeps → IfOk result (λ done. content_beside self.new.place self.new.state ≡ written (content_beside self.old.place self.old.state) (image + inner) bytes.now) }
-        ensures goes { FlushedOn D.keeps J.formatted J.before self.old self.new }
+        ensures room { AreTrue self.new.reads → image + inner + length bytes.now ≤ length (content_beside self.old.place self.old.state) }
+        ensures content { AreTrue self.new.reads → IfOk result (λ done. content_beside self.new.place self.new.state ≡ written (content_beside self.old.place self.old.state) (image + inner) bytes.now) }
+        ensures goes { FlushedOn J.formatted J.before self.old self.new }
     {
         self.known();
         let _node = node;
@@ -84,7 +84,7 @@ impl<J: Naming, D: Disk> Flusher<J, D> {
         ensures went { NothingStored self.old self.new }
         ensures same { (self.new.state ≡ self.old.state) × (self.new.progress ≡ self.old.progress) }
         ensures head { result ≡ true → IsFrozenHead self.new.world.net node out.new }
-        ensures goes { FlushedOn D.keeps J.formatted J.before self.old self.new }
+        ensures goes { FlushedOn J.formatted J.before self.old self.new }
     {
         self.known();
         let Flusher { parts, .. } = self;
@@ -108,7 +108,7 @@ impl<J: Naming, D: Disk> Flusher<J, D> {
         ensures same { (self.new.state ≡ self.old.state) × (self.new.progress ≡ self.old.progress) }
         ensures few { result ≤ length out.old }
         ensures pages { AreFrozenPages self.new.world.net node first result out.new }
-        ensures goes { FlushedOn D.keeps J.formatted J.before self.old self.new }
+        ensures goes { FlushedOn J.formatted J.before self.old self.new }
     {
         self.known();
         let Flusher { parts, .. } = self;
@@ -124,7 +124,7 @@ impl<J: Naming, D: Disk> Flusher<J, D> {
         ensures went { NothingStored self.old self.new }
         ensures same { (self.new.state ≡ self.old.state) × (self.new.progress ≡ self.old.progress) }
         ensures gone { keeps_pages self.new.frozen node ≡ false }
-        ensures goes { FlushedOn D.keeps J.formatted J.before self.old self.new }
+        ensures goes { FlushedOn J.formatted J.before self.old self.new }
     {
         self.known();
         let Flusher { parts, .. } = self;
@@ -136,12 +136,12 @@ impl<J: Naming, D: Disk> Flusher<J, D> {
     pub(crate) fn put_out(&mut self, node: usize)
         requires rests { self.old.world.at ≡ Resting }
         requires node { node < length self.old.topology.pages }
-        requires stands { D.keeps → IsPartOut self.old.topology self.old.world.net (content_beside self.old.place self.old.state) node (get_or self.old.topology.pages node 0) }
+        requires stands { AreTrue self.old.reads → IsPartOut self.old.topology self.old.world.net (content_beside self.old.place self.old.state) node (get_or self.old.topology.pages node 0) }
         requires gone { IsGone self.old.world.net self.old.frozen node }
         ensures went { NothingStored self.old self.new }
         ensures out { self.new.progress ≡ with_out self.old.progress node }
         ensures is { is_out self.new.progress node ≡ true }
-        ensures goes { FlushedOn D.keeps J.formatted J.before self.old self.new }
+        ensures goes { FlushedOn J.formatted J.before self.old self.new }
     {
         self.known();
         let Flusher { parts, .. } = self;

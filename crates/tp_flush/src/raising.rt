@@ -16,7 +16,7 @@ impl<J: Naming, D: Disk> Flusher<J, D> {
         ensures up { self.old.world.mark ≤ result }
         ensures looked { OnlyLooked self.old self.new }
         ensures net { (self.new.world.net ≡ self.old.world.net) × (self.new.frozen ≡ self.old.frozen) }
-        ensures goes { FlushedOn D.keeps J.formatted J.before self.old self.new }
+        ensures goes { FlushedOn J.formatted J.before self.old self.new }
     {
         self.known();
         let Flusher { parts, .. } = self;

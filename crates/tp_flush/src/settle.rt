@@ -1,7 +1,7 @@
 //! What passes and slips are worth: what a pass saw compared with the flusher's mark, and slips compared with its journal.
 
 ghost use Rattle.std.specs.Prelude.{◌≡◌, ◌≤◌, ◌++◌, ℕ, List, drop};
-ghost use Rattle.tp_flush.specs.Lower.{AllByRecursion, NodeState, t414, Network, MayBe, device_areas, RecoversTo, Entry, AreBelow, number_of};
+ghost use Rattle.tp_flush.specs.Lower.{AreTrue, AllByRecursion, NodeState, t414, Network, MayBe, device_areas, RecoversTo, Entry, AreBelow, number_of};
 ghost use Rattle.tp_flush.specs.Known.{Began};
 ghost use Rattle.tp_flush.specs.Risen.{WasStored};
 ghost use Rattle.tp_flush.specs.Settled.{RecoversWith, SlipsStand};
@@ -22,7 +22,7 @@ impl<J: Naming, D: Disk> Flusher<J, D> {
         ensures same { (self.new ≡ self.old) × (pass.new ≡ pass.old) }
         ensures mark { pass.old.at ≤ self.old.world.mark }
         ensures number { pass.old.at ≡ number_of pass.old.rises }
-        ensures rises { D.keeps → Began J.formatted J.before self.old.opened
+        ensures rises { AreTrue self.new.reads → Began J.formatted J.before self.old.opened
             → AllByRecursion (WasStored J.formatted self.old.world.journal self.old.state) (drop 1 pass.old.rises) }
     {
         let Flusher { parts, .. } = self;
@@ -32,7 +32,7 @@ impl<J: Naming, D: Disk> Flusher<J, D> {
     /// Proves that each slip's entry is in the flusher's journal at its number, if the journal reaches so far. It changes nothing.
     pub fn settle_seat(&mut self, held: &mut Locked<J>, seat: &mut Seat<J>)
         ensures same { (self.new ≡ self.old) × (held.new ≡ held.old) × (seat.new ≡ seat.old) }
-        ensures stand { D.keeps → Began J.formatted J.before self.old.opened → SlipsStand self.old.world.journal seat.old }
+        ensures stand { AreTrue self.new.reads → Began J.formatted J.before self.old.opened → SlipsStand self.old.world.journal seat.old }
     {
         self.known();
         held.audit(seat);
@@ -43,7 +43,7 @@ impl<J: Naming, D: Disk> Flusher<J, D> {
     // Takes the book's lock, and settles a seat under it.
     fn settle_under<R: Wait>(&mut self, rt: &R, shared: &Shared<J>, seat: &mut Seat<J>)
         ensures same { (self.new ≡ self.old) × (seat.new ≡ seat.old) }
-        ensures stand { D.keeps → Began J.formatted J.before self.old.opened → SlipsStand self.old.world.journal seat.old }
+        ensures stand { AreTrue self.new.reads → Began J.formatted J.before self.old.opened → SlipsStand self.old.world.journal seat.old }
     {
         let mut held = shared.book().lock(rt);
         self.settle_seat(&mut held, seat);
@@ -63,8 +63,8 @@ impl<J: Naming, D: Disk> Flusher<J, D> {
         requires { pass.old.mark ≡ J.mark }
         ensures same { (self.new ≡ self.old) × (pass.new ≡ pass.old) × (seat.new ≡ seat.old) }
         ensures mark { pass.old.at ≤ self.old.world.mark }
-        ensures stand { D.keeps → Began J.formatted J.before self.old.opened → SlipsStand self.old.world.journal seat.old }
-        ensures recovers { D.keeps → Began J.formatted J.before self.old.opened
+        ensures stand { AreTrue self.new.reads → Began J.formatted J.before self.old.opened → SlipsStand self.old.world.journal seat.old }
+        ensures recovers { AreTrue self.new.reads → Began J.formatted J.before self.old.opened
             → (before some behind : List (ℕ × Entry)) → seat.old ≡ before ++ some ++ behind → AreBelow pass.old.at some
             → (left : List ℕ) → MayBe self.old.state.now left → RecoversWith J.formatted self.old.world.journal self.old.world.mark some left }
     {

@@ -1,7 +1,7 @@
 //! Whether all that was journalled is in somebody's hand.
 
 ghost use Rattle.std.specs.Prelude.{◌≡◌, ◌==◌, ◌&&◌, nat_le, length, true};
-ghost use Rattle.tp_book.specs.Book.{next_in_book};
+ghost use Rattle.tp_flush.specs.Lower.{next_in_book, AreTrue};
 ghost use Rattle.tp_flush.specs.All.{AreAll};
 ghost use Rattle.tp_flush.specs.Known.{Began};
 
@@ -17,7 +17,7 @@ impl<J: Naming, D: Disk> Flusher<J, D> {
         requires first { first ≡ J.first }
         ensures same { (self.new ≡ self.old) × (held.new ≡ held.old) × (seat.new ≡ seat.old) }
         ensures result { result ≡ ((length seat.old == length held.old.all) && nat_le (next_in_book held.old.book) self.old.world.mark) }
-        ensures all { result ≡ true → D.keeps → Began J.formatted J.before self.old.opened → AreAll J.first (next_in_book held.old.book) self.old.world.journal seat.old }
+        ensures all { result ≡ true → AreTrue self.new.reads → Began J.formatted J.before self.old.opened → AreAll J.first (next_in_book held.old.book) self.old.world.journal seat.old }
     {
         self.known();
         held.known();

@@ -1,7 +1,7 @@
 //! The mark's raiser in the flusher's hand.
 
 ghost use Rattle.std.specs.Prelude.{◌≡◌, ◌≤◌};
-ghost use Rattle.tp_flush.specs.Lower.{moment, RisesOn, number_of, risen};
+ghost use Rattle.tp_flush.specs.Lower.{AreTrue, moment, RisesOn, number_of, risen};
 ghost use Rattle.tp_flush.specs.Known.{Began, Reached};
 
 use crate::whole::Whole;
@@ -51,8 +51,8 @@ impl StoredMark {
     )
         requires mark { self.old.mark ≡ J.mark }
         requires stored { store.now.place.next ≡ whole.now.known.world.stored }
-        requires disk { D.keeps → whole.now.known.world.disk ≡ (D.state store.now.disk).now }
-        requires reached { D.keeps → Began J.formatted J.before whole.now.known.opened → Reached J.formatted whole.now.known.world }
+        requires disk { AreTrue (D.reads store.now.disk) → whole.now.known.world.disk ≡ (D.state store.now.disk).now }
+        requires reached { AreTrue (D.reads store.now.disk) → Began J.formatted J.before whole.now.known.opened → Reached J.formatted whole.now.known.world }
         ensures { self.new ≡ risen self.old store.now.place.next (moment (D.state store.now.disk)) }
     {
         shared

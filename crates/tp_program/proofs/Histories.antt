@@ -1,7 +1,7 @@
--- The history that a caller gives who knows of nothing before.
-use Rattle.std.proofs.Common.{[]}
+-- What a caller gives who knows nothing of what was before, or of what devices hold.
+use Rattle.std.proofs.Common.{List, []}
 use Rattle.std.specs.Prelude.{None}
-use Rattle.tp_program.proofs.Lower.{NodeState, Network, Resting, History}
+use Rattle.tp_program.proofs.Lower.{Medium, NodeState, Network, Resting, History}
 
 no_network : Network NodeState
 no_network = record { wires = []; nodes = []; ports = []; lines = [] }
@@ -21,3 +21,6 @@ no_history = record {
     seen = [];
   };
 }
+
+pub no_media : List Medium
+no_media = []

@@ -8,3 +8,4 @@ mod ImagesRead
 mod Requests
 mod Statuses
 mod Stayed
+mod Used

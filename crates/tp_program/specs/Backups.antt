@@ -14,10 +14,10 @@ pub record IsBackup (source before : List ℕ) (copy : Moment) (next : ℕ) : Ty
   pub copied : IsCopy (area_kept opened) source before copy next
 
 -- The device's last call asked for the gate and the generation of the area to which the device was opened, and the gate was open, with its
--- generation. The device is in the state `left` after that. If it keeps the model, the opening is that of the bytes `source`.
-pub record FoundAsOpened (keeps : Type 0) (source : List ℕ) (left : State) (asked : AreaAsked) : Type 0 where
+-- generation. The device is in the state `left` after that. Under the premise on its reads the opening is that of the bytes `source`.
+pub record FoundAsOpened (premise : Type 0) (source : List ℕ) (left : State) (asked : AreaAsked) : Type 0 where
   pub opened : Opened
-  pub is : keeps → verdict source ≡ Ok opened
+  pub is : premise → verdict source ≡ Ok opened
   pub last : AskedLast (area_kept opened) left asked
 
 -- The text is the line of a copy.

@@ -6,6 +6,7 @@ pub mod Streaming
 pub mod Rights
 pub mod Backups
 pub mod Devices
+pub mod Media
 pub mod Stops
 pub mod RunFile
 pub mod CompactFile

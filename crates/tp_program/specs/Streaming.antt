@@ -1,6 +1,6 @@
 -- What `run --stream` does.
-use Rattle.std.specs.Prelude.{◌≡◌, ◌==◌, ℕ, Bool, true, Result, Ok, Err, ◌||◌, if◌then◌else◌, is_some, min, unwrap_or}
-use Rattle.tp_program.specs.Lower.{NodeState, Network, State, LeavesNothingNew, Unopened, StaysUnstreamed, Streamed, Ended, Ending, Halted, StreamFault, Opening, Spare, Port, Unnamed, Task, EndFault, SameFile, Twice, StreamRun}
+use Rattle.std.specs.Prelude.{◌≡◌, ◌==◌, ℕ, Bool, true, List, map, Option, None, Result, Ok, Err, ◌||◌, if◌then◌else◌, is_some, min, unwrap_or}
+use Rattle.tp_program.specs.Lower.{NodeState, Network, State, LeavesNothingNew, Unopened, StaysUnstreamed, StreamedInto, OutputValue, outputs_named, GivenInput, given_input, PortFile, Ends, Ended, Ending, Halted, StreamFault, Opening, Spare, Port, Unnamed, Task, EndFault, SameFile, Twice, StreamRun}
 use Rattle.tp_program.specs.declared.streaming.FilesFault.{FilesFault}
 use Rattle.tp_program.specs.declared.streaming.FilesFault.TheVariants.{End, Stop, Stream}
 
@@ -76,12 +76,17 @@ stream_status (Err (End fault)) = end_status fault
 stream_status (Err (Stop fault)) = 2
 stream_status (Err (Stream fault)) = fault_status fault
 
--- What a stream leaves. If it ended before the device was read, the device is as it was.
-abbrev pub StreamedOn : Network NodeState → Result Ended FilesFault → State → State → Type 0
-StreamedOn start (Ok ended) old new = Streamed start (Ok ended) old new
-StreamedOn start (Err (End fault)) old new = new ≡ old
-StreamedOn start (Err (Stop fault)) old new = new ≡ old
-StreamedOn start (Err (Stream fault)) old new = Streamed start (Err fault) old new
+-- what is known of the inputs that were named: which port each is for
+abbrev pub inputs_for : Ends → List GivenInput
+inputs_for ends = map (λ (end : PortFile). given_input end.port None) ends.ins.items
+
+-- What a stream leaves, and what each output that was named got, in the file at its own path. It handed in bytes at the ports of the inputs that were
+-- named, and at no others. If the stream ended before the device was read, the device is as it was.
+abbrev pub StreamedOn : Network NodeState → Ends → Result Ended FilesFault → State → State → Type 0
+StreamedOn start ends (Ok ended) old new = (got : List OutputValue) × StreamedInto start (inputs_for ends) (Ok ended) (outputs_named ends) got old new
+StreamedOn start ends (Err (End fault)) old new = new ≡ old
+StreamedOn start ends (Err (Stop fault)) old new = new ≡ old
+StreamedOn start ends (Err (Stream fault)) old new = (got : List OutputValue) × StreamedInto start (inputs_for ends) (Err fault) (outputs_named ends) got old new
 
 -- If the stream didn't begin, it left nothing new on the device.
 abbrev pub FindsNothingNew : Result Ended FilesFault → State → State → Type 0
@@ -102,3 +107,10 @@ IsUnopened (Ok ended) = ⊥
 IsUnopened (Err (End fault)) = Unit {0}
 IsUnopened (Err (Stop fault)) = Unit {0}
 IsUnopened (Err (Stream fault)) = (unopened : Unopened) × (fault ≡ Opening unopened)
+
+-- If the outputs and inputs were opened, this is true.
+abbrev pub OnOpened : Result Ended FilesFault → Type 0 → Type 0
+OnOpened (Ok ended) P = P
+OnOpened (Err (End fault)) P = Unit {0}
+OnOpened (Err (Stop fault)) P = Unit {0}
+OnOpened (Err (Stream fault)) P = P

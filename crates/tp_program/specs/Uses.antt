@@ -1,6 +1,6 @@
 -- What commands print, and do with files other than the devices that they write.
 use Rattle.std.specs.Prelude.{◌≡◌, ◌⊎◌, ◌≤◌, ◌++◌, ◌∷◌, ◌==◌, if◌then◌else◌, option_map, unwrap_or, ℕ, Bool, true, List, [], codes, map, length, string_bytes, Option, Some, None, All, IsErr, IsSome, Ok}
-use Rattle.tp_program.specs.Lower.{Appends, Global, String, Formatted, IsOldOrNew, LeavesOnly, State, start_of, node_of, areas_of_length, version_for, Opened, verdict, Topology, read_text, node_names, PortFile, LeavesNothingNew, fresh_image, PrintsTrial, wanted_area, topology_said, device_text, device_traced, AppendsFront, PrintsFront, StatusTells, Maps, Row, no_maps, read_map, rows_of, Prints, look_text, Traces, node_traced, place_of, range_of, HasNone, LacksShown, PrintsShown, PrintsView, view_text, Seen, Stops, NewDevice, ImageTrace, TracePart, View}
+use Rattle.tp_program.specs.Lower.{AreTrue, Reading, Appends, Global, String, Formatted, IsOldOrNew, LeavesOnly, State, start_of, node_of, areas_of_length, version_for, Opened, verdict, Topology, read_text, node_names, PortFile, LeavesNothingNew, fresh_image, PrintsTrial, wanted_area, topology_said, device_text, device_traced, AppendsFront, PrintsFront, StatusTells, Maps, Row, no_maps, read_map, rows_of, Prints, look_text, Traces, node_traced, place_of, range_of, HasNone, LacksShown, PrintsShown, PrintsView, view_text, Seen, Stops, NewDevice, ImageTrace, TracePart, View}
 use Rattle.tp_program.specs.Backups.{IsBackup, copied_line}
 use Rattle.tp_program.specs.Devices.{DeviceCall, Begins, Leaves, Links, Looks, Reads, Requests, WasRefused}
 use Rattle.tp_program.specs.Formats.{formatted_text}
@@ -13,11 +13,12 @@ pub record ReadsOne (path : List ℕ) (old new : List DeviceCall) (P : List ℕ 
   pub read : P bytes
 
 -- Only the device at this path was opened to be read, and it was given back. `P` is true of its states when it was opened and when it was given back.
-pub record LooksAtOne (path : List ℕ) (old new : List DeviceCall) (P : State → State → Type 0) : Type 0 where
+pub record LooksAtOne (path : List ℕ) (old new : List DeviceCall) (P : State → State → List Reading → Type 0) : Type 0 where
   pub opened : State
   pub closed : State
-  pub uses : new ≡ old ++ Looks path opened ∷ Leaves closed ∷ []
-  pub between : P opened closed
+  pub read : List Reading
+  pub uses : new ≡ old ++ Looks path opened ∷ Leaves closed read ∷ []
+  pub between : P opened closed read
 
 -- What `try_on` promises of an image.
 pub record Tried (turns : ℕ) (was now : Option (List ℕ)) (status : ℕ) (image : List ℕ) : Type 0 where
@@ -30,39 +31,39 @@ pub record Traced (rows : List Row) (stops : Stops) (steps : ℕ) (others : List
   pub refused : node_of image ≡ None → (status ≡ 1) × (now ≡ was)
 
 -- What `show_on` and `recover_on` promise of a device, between the state in which it was opened and the one in which it was given back.
-pub record Shows (keeps : Type 0) (text : Opened → List ℕ) (was now : Option (List ℕ)) (status : ℕ) (opened closed : State) : Type 0 where
-  pub done : keeps → status ≡ 0 → Prints text opened.now.bytes was now
-  pub front : keeps → PrintsFront text opened.now.bytes was now
-  pub left : keeps → LeavesNothingNew opened closed
-  pub unopened : keeps → IsErr (verdict opened.now.bytes) → (status ≡ 1) × (now ≡ was)
+pub record Shows (text : Opened → List ℕ) (was now : Option (List ℕ)) (status : ℕ) (opened closed : State) (read : List Reading) : Type 0 where
+  pub done : AreTrue read → status ≡ 0 → Prints text opened.now.bytes was now
+  pub front : AreTrue read → PrintsFront text opened.now.bytes was now
+  pub left : LeavesNothingNew opened closed
+  pub unopened : AreTrue read → IsErr (verdict opened.now.bytes) → (status ≡ 1) × (now ≡ was)
 
 -- What `view_on` promises, if maps say this of addresses.
-pub record Viewed (keeps : Type 0) (view : View) (maps : Maps) (was now : Option (List ℕ)) (status : ℕ) (opened closed : State) : Type 0 where
-  pub done : keeps → status ≡ 0 → PrintsView view maps opened.now.bytes was now
-  pub absent : keeps → status ≡ 2 → HasNone view maps opened.now.bytes was now
-  pub front : keeps → PrintsFront (view_text view maps) opened.now.bytes was now
-  pub left : keeps → LeavesNothingNew opened closed
-  pub unopened : keeps → IsErr (verdict opened.now.bytes) → (status ≡ 1) × (now ≡ was)
+pub record Viewed (view : View) (maps : Maps) (was now : Option (List ℕ)) (status : ℕ) (opened closed : State) (read : List Reading) : Type 0 where
+  pub done : AreTrue read → status ≡ 0 → PrintsView view maps opened.now.bytes was now
+  pub absent : AreTrue read → status ≡ 2 → HasNone view maps opened.now.bytes was now
+  pub front : AreTrue read → PrintsFront (view_text view maps) opened.now.bytes was now
+  pub left : LeavesNothingNew opened closed
+  pub unopened : AreTrue read → IsErr (verdict opened.now.bytes) → (status ≡ 1) × (now ≡ was)
 
 -- That is so with the maps of a folder. If no folder is named, no map says anything.
-pub record ViewedBy (keeps : Type 0) (view : View) (folder : Option (String Global)) (was now : Option (List ℕ)) (status : ℕ) (opened closed : State) : Type 0 where
+pub record ViewedBy (view : View) (folder : Option (String Global)) (was now : Option (List ℕ)) (status : ℕ) (opened closed : State) (read : List Reading) : Type 0 where
   pub maps : Maps
   pub unnamed : folder ≡ None → maps ≡ no_maps
-  pub viewed : Viewed keeps view maps was now status opened closed
+  pub viewed : Viewed view maps was now status opened closed read
 
 -- What `trace_device_on` promises, if maps say this of addresses.
-pub record TracedDevice (keeps : Type 0) (part : TracePart) (maps : Maps) (was now : Option (List ℕ)) (status : ℕ) (opened closed : State) : Type 0 where
-  pub done : keeps → status ≡ 0 → PrintsShown (device_traced (rows_of maps part.node) part) opened.now.bytes was now
-  pub absent : keeps → status ≡ 2 → LacksShown (device_traced (rows_of maps part.node) part) opened.now.bytes was now
-  pub front : keeps → PrintsFront (device_text (rows_of maps part.node) part) opened.now.bytes was now
-  pub left : keeps → LeavesNothingNew opened closed
-  pub unopened : keeps → IsErr (verdict opened.now.bytes) → (status ≡ 1) × (now ≡ was)
+pub record TracedDevice (part : TracePart) (maps : Maps) (was now : Option (List ℕ)) (status : ℕ) (opened closed : State) (read : List Reading) : Type 0 where
+  pub done : AreTrue read → status ≡ 0 → PrintsShown (device_traced (rows_of maps part.node) part) opened.now.bytes was now
+  pub absent : AreTrue read → status ≡ 2 → LacksShown (device_traced (rows_of maps part.node) part) opened.now.bytes was now
+  pub front : AreTrue read → PrintsFront (device_text (rows_of maps part.node) part) opened.now.bytes was now
+  pub left : LeavesNothingNew opened closed
+  pub unopened : AreTrue read → IsErr (verdict opened.now.bytes) → (status ≡ 1) × (now ≡ was)
 
 -- That is so with the maps of a folder. If no folder is named, no map says anything.
-pub record TracedBy (keeps : Type 0) (part : TracePart) (folder : Option (String Global)) (was now : Option (List ℕ)) (status : ℕ) (opened closed : State) : Type 0 where
+pub record TracedBy (part : TracePart) (folder : Option (String Global)) (was now : Option (List ℕ)) (status : ℕ) (opened closed : State) (read : List Reading) : Type 0 where
   pub maps : Maps
   pub unnamed : folder ≡ None → maps ≡ no_maps
-  pub traced : TracedDevice keeps part maps was now status opened closed
+  pub traced : TracedDevice part maps was now status opened closed read
 
 -- Why not all of a command's files were used: it was refused before, with nothing printed.
 pub record WasUnbegun (was now : Option (List ℕ)) (status : ℕ) : Type 0 where
@@ -141,24 +142,25 @@ pub record Checked (json : Bool) (topology folder : List ℕ) (old new : List De
   pub checked : CheckedText json text folder (old ++ Reads topology text ∷ []) new was now
 
 -- What `format_on` promises of a device, between the state in which it was begun and the one in which it was given back.
-pub record FormattedBetween (keeps : Type 0) (found : Topology) (images : List (List ℕ)) (area : Option ℕ) (was now : Option (List ℕ)) (status : ℕ) (begun left : State) : Type 0 where
-  pub formatted : keeps → status ≡ 0 → Formatted found images (areas_of_length (version_for found) (wanted_area found area)) begun left
+pub record FormattedBetween (found : Topology) (images : List (List ℕ)) (area : Option ℕ) (was now : Option (List ℕ)) (status : ℕ) (begun left : State) : Type 0 where
+  pub formatted : status ≡ 0 → Formatted found images (areas_of_length (version_for found) (wanted_area found area)) begun left
   pub printed : status ≡ 0 → Appends was now formatted_text
   pub front : AppendsFront was now formatted_text
-  pub said : keeps → (now ≡ was) ⊎ Formatted found images (areas_of_length (version_for found) (wanted_area found area)) begun left
-  pub leaves : keeps → LeavesOnly begun left (IsOldOrNew found images (areas_of_length (version_for found) (wanted_area found area)) begun)
+  pub said : (now ≡ was) ⊎ Formatted found images (areas_of_length (version_for found) (wanted_area found area)) begun left
+  pub leaves : LeavesOnly begun left (IsOldOrNew found images (areas_of_length (version_for found) (wanted_area found area)) begun)
 
 -- Only one device was begun, in the file at this path, and it was given back. `P` is true of its states when it was begun and when it was given back.
 pub record BeginsOne (path : List ℕ) (old new : List DeviceCall) (P : State → State → Type 0) : Type 0 where
   pub begun : State
   pub left : State
-  pub uses : new ≡ old ++ Begins path begun ∷ Leaves left ∷ []
+  pub read : List Reading
+  pub uses : new ≡ old ++ Begins path begun ∷ Leaves left read ∷ []
   pub between : P begun left
 
 -- Either the command was refused before it began a device, or it began one and formatted it for this topology and these images.
-abbrev pub FormattedNetwork : (keeps : Type 0) → (device : List ℕ) → (area : Option ℕ) → Topology → (images : List (List ℕ)) → (old new : List DeviceCall) → (was now : Option (List ℕ)) → ℕ → Type 0
-FormattedNetwork keeps device area found images old new was now status =
-    WasUnbegun was now status ⊎ BeginsOne device old new (FormattedBetween keeps found images area was now status)
+abbrev pub FormattedNetwork : (device : List ℕ) → (area : Option ℕ) → Topology → (images : List (List ℕ)) → (old new : List DeviceCall) → (was now : Option (List ℕ)) → ℕ → Type 0
+FormattedNetwork device area found images old new was now status =
+    WasUnbegun was now status ⊎ BeginsOne device old new (FormattedBetween found images area was now status)
 
 -- the paths of the files that a device is made from: that of its topology, and that of each node's image
 abbrev pub sources_of : (topology folder : List ℕ) → (names : List (List ℕ)) → List (List ℕ)
@@ -169,121 +171,126 @@ abbrev pub IsApart : (device : List ℕ) → (paths : List (List ℕ)) → Type 
 IsApart device paths = All (λ path. device ≡ path → ⊥) paths
 
 -- A device was begun at none of these paths, and formatted.
-pub record FormattedApart (keeps : Type 0) (sources : List (List ℕ)) (device : List ℕ) (area : Option ℕ) (found : Topology) (images : List (List ℕ)) (old new : List DeviceCall) (was now : Option (List ℕ)) (status : ℕ) : Type 0 where
+pub record FormattedApart (sources : List (List ℕ)) (device : List ℕ) (area : Option ℕ) (found : Topology) (images : List (List ℕ)) (old new : List DeviceCall) (was now : Option (List ℕ)) (status : ℕ) : Type 0 where
   pub apart : IsApart device sources
-  pub made : BeginsOne device old new (FormattedBetween keeps found images area was now status)
+  pub made : BeginsOne device old new (FormattedBetween found images area was now status)
 
 -- Either the command was refused before it began a device, or it began one at none of these paths, and formatted it.
-abbrev pub FormattedNamed : (keeps : Type 0) → (sources : List (List ℕ)) → (device : List ℕ) → (area : Option ℕ) → Topology → (images : List (List ℕ)) → (old new : List DeviceCall) → (was now : Option (List ℕ)) → ℕ → Type 0
-FormattedNamed keeps sources device area found images old new was now status =
-    WasUnbegun was now status ⊎ FormattedApart keeps sources device area found images old new was now status
+abbrev pub FormattedNamed : (sources : List (List ℕ)) → (device : List ℕ) → (area : Option ℕ) → Topology → (images : List (List ℕ)) → (old new : List DeviceCall) → (was now : Option (List ℕ)) → ℕ → Type 0
+FormattedNamed sources device area found images old new was now status =
+    WasUnbegun was now status ⊎ FormattedApart sources device area found images old new was now status
 
 -- The images for a text were read, and a device was begun and formatted for them. It isn't at the path of the text's file, or of an image's.
-pub record FormattedFor (keeps : Type 0) (text topology folder device : List ℕ) (area : Option ℕ) (old new : List DeviceCall) (was now : Option (List ℕ)) (status : ℕ) : Type 0 where
+pub record FormattedFor (text topology folder device : List ℕ) (area : Option ℕ) (old new : List DeviceCall) (was now : Option (List ℕ)) (status : ℕ) : Type 0 where
   pub found : Topology
   pub images : List (List ℕ)
   pub mid : List DeviceCall
   pub read : ReadsImages text folder old mid found images
-  pub made : FormattedApart keeps (sources_of topology folder (node_names text)) device area found images mid new was now status
+  pub made : FormattedApart (sources_of topology folder (node_names text)) device area found images mid new was now status
 
-abbrev pub FormattedText : (keeps : Type 0) → (text topology folder device : List ℕ) → (area : Option ℕ) → (old new : List DeviceCall) → (was now : Option (List ℕ)) → ℕ → Type 0
-FormattedText keeps text topology folder device area old new was now status =
-    WasUnbegun was now status ⊎ FormattedFor keeps text topology folder device area old new was now status
+abbrev pub FormattedText : (text topology folder device : List ℕ) → (area : Option ℕ) → (old new : List DeviceCall) → (was now : Option (List ℕ)) → ℕ → Type 0
+FormattedText text topology folder device area old new was now status =
+    WasUnbegun was now status ⊎ FormattedFor text topology folder device area old new was now status
 
 -- That is so for the text in a file.
-pub record FormattedFrom (keeps : Type 0) (topology folder device : List ℕ) (area : Option ℕ) (old new : List DeviceCall) (was now : Option (List ℕ)) (status : ℕ) : Type 0 where
+pub record FormattedFrom (topology folder device : List ℕ) (area : Option ℕ) (old new : List DeviceCall) (was now : Option (List ℕ)) (status : ℕ) : Type 0 where
   pub text : List ℕ
-  pub made : FormattedFor keeps text topology folder device area (old ++ Reads topology text ∷ []) new was now status
+  pub made : FormattedFor text topology folder device area (old ++ Reads topology text ∷ []) new was now status
 
-abbrev pub FormattedFile : (keeps : Type 0) → NewDevice → (old new : List DeviceCall) → (was now : Option (List ℕ)) → ℕ → Type 0
-FormattedFile keeps device old new was now status =
+abbrev pub FormattedFile : NewDevice → (old new : List DeviceCall) → (was now : Option (List ℕ)) → ℕ → Type 0
+FormattedFile device old new was now status =
     WasUnbegun was now status
-    ⊎ FormattedFrom keeps (string_bytes device.topology) (string_bytes device.images) (string_bytes device.device) device.area old new was now status
+    ⊎ FormattedFrom (string_bytes device.topology) (string_bytes device.images) (string_bytes device.device) device.area old new was now status
 
 -- What one check of `status` promises if it was told, whether or not a check came before it.
-pub record Told (keeps : Type 0) (json : Bool) (before : Option Seen) (was now : Option (List ℕ)) (seen : Seen) (opened closed : State) : Type 0 where
+pub record Told (json : Bool) (before : Option Seen) (was now : Option (List ℕ)) (seen : Seen) (opened closed : State) (read : List Reading) : Type 0 where
   pub held : Bool
   pub at : ℕ
   pub clock : Option ℕ
-  pub tells : keeps → StatusTells json held at clock before opened.now.bytes was now seen
-  pub left : keeps → LeavesNothingNew opened closed
+  pub tells : AreTrue read → StatusTells json held at clock before opened.now.bytes was now seen
+  pub left : LeavesNothingNew opened closed
 
 -- What one check of `status` promises if it was refused.
-pub record Untold (keeps : Type 0) (json : Bool) (before : Option Seen) (was now : Option (List ℕ)) (opened closed : State) : Type 0 where
+pub record Untold (json : Bool) (before : Option Seen) (was now : Option (List ℕ)) (opened closed : State) (read : List Reading) : Type 0 where
   pub held : Bool
   pub at : ℕ
   pub clock : Option ℕ
-  pub front : keeps → PrintsFront (look_text json held at clock before) opened.now.bytes was now
-  pub left : keeps → LeavesNothingNew opened closed
-  pub unopened : keeps → IsErr (verdict opened.now.bytes) → now ≡ was
+  pub front : AreTrue read → PrintsFront (look_text json held at clock before) opened.now.bytes was now
+  pub left : LeavesNothingNew opened closed
+  pub unopened : AreTrue read → IsErr (verdict opened.now.bytes) → now ≡ was
 
 -- Checks, one after the other. Each was told, and knows what the one before it saw.
-pub data HaveLooked (keeps : Type 0) (json : Bool) (path : List ℕ) (old : List DeviceCall) (was : Option (List ℕ)) : (new : List DeviceCall) → (now : Option (List ℕ)) → (seen : Option Seen) → Type 0 where
-  None_yet : HaveLooked keeps json path old was old was None
+pub data HaveLooked (json : Bool) (path : List ℕ) (old : List DeviceCall) (was : Option (List ℕ)) : (new : List DeviceCall) → (now : Option (List ℕ)) → (seen : Option Seen) → Type 0 where
+  None_yet : HaveLooked json path old was old was None
   Then : (mid new : List DeviceCall) → (between now : Option (List ℕ)) → (before : Option Seen) → (seen : Seen)
-      → HaveLooked keeps json path old was mid between before → LooksAtOne path mid new (Told keeps json before between now seen)
-      → HaveLooked keeps json path old was new now (Some seen)
+      → HaveLooked json path old was mid between before → LooksAtOne path mid new (Told json before between now seen)
+      → HaveLooked json path old was new now (Some seen)
 
 -- Either the last check was told, and its line is the last thing printed; or one more check was refused.
-abbrev pub EndsLooks : (keeps : Type 0) → Bool → (path : List ℕ) → (before : Option Seen) → (mid new : List DeviceCall) → (between now : Option (List ℕ)) → ℕ → Type 0
-EndsLooks keeps json path before mid new between now status =
+abbrev pub EndsLooks : Bool → (path : List ℕ) → (before : Option Seen) → (mid new : List DeviceCall) → (between now : Option (List ℕ)) → ℕ → Type 0
+EndsLooks json path before mid new between now status =
     (status ≡ 0) × IsSome before × (new ≡ mid) × (now ≡ between)
-    ⊎ (WasRefused mid new between now status ⊎ (status ≡ 1) × LooksAtOne path mid new (Untold keeps json before between now))
+    ⊎ (WasRefused mid new between now status ⊎ (status ≡ 1) × LooksAtOne path mid new (Untold json before between now))
 
 -- What `status` promises.
-pub record HasStatus (keeps : Type 0) (json : Bool) (path : List ℕ) (old new : List DeviceCall) (was now : Option (List ℕ)) (status : ℕ) : Type 0 where
+pub record HasStatus (json : Bool) (path : List ℕ) (old new : List DeviceCall) (was now : Option (List ℕ)) (status : ℕ) : Type 0 where
   pub mid : List DeviceCall
   pub between : Option (List ℕ)
   pub before : Option Seen
-  pub looks : HaveLooked keeps json path old was mid between before
-  pub ends : EndsLooks keeps json path before mid new between now status
+  pub looks : HaveLooked json path old was mid between before
+  pub ends : EndsLooks json path before mid new between now status
 
 -- the path at which a copy is made
 abbrev pub part_of : List ℕ → List ℕ
 part_of copy = copy ++ codes ".part"
 
 -- The device `begun` got all of `source` that counts, and was given back. The text is the line of this copy.
-pub record IsFilled (keeps new_keeps : Type 0) (source begun : State) (old new : List DeviceCall) (text : List ℕ) : Type 0 where
+pub record IsFilled (source : State) (read : List Reading) (begun : State) (old new : List DeviceCall) (text : List ℕ) : Type 0 where
   pub next : ℕ
   pub left : State
-  pub uses : new ≡ old ++ Leaves left ∷ []
-  pub is : keeps → new_keeps → IsBackup source.now.bytes begun.now.bytes left.now next
+  pub copied : List Reading
+  pub uses : new ≡ old ++ Leaves left copied ∷ []
+  pub is : AreTrue read → AreTrue copied → IsBackup source.now.bytes begun.now.bytes left.now next
   pub line : text ≡ copied_line next
 
 -- After that the copy got its name.
-pub record IsLinked (keeps new_keeps : Type 0) (part copy : List ℕ) (source begun : State) (old new : List DeviceCall) (text : List ℕ) : Type 0 where
+pub record IsLinked (part copy : List ℕ) (source : State) (read : List Reading) (begun : State) (old new : List DeviceCall) (text : List ℕ) : Type 0 where
   pub next : ℕ
   pub left : State
-  pub uses : new ≡ old ++ Leaves left ∷ Links part copy ∷ []
-  pub is : keeps → new_keeps → IsBackup source.now.bytes begun.now.bytes left.now next
+  pub copied : List Reading
+  pub uses : new ≡ old ++ Leaves left copied ∷ Links part copy ∷ []
+  pub is : AreTrue read → AreTrue copied → IsBackup source.now.bytes begun.now.bytes left.now next
   pub line : text ≡ copied_line next
 
 -- Before that the copy was begun in a file of its own.
-pub record IsCopyOf (keeps new_keeps : Type 0) (part copy : List ℕ) (source : State) (old new : List DeviceCall) (text : List ℕ) : Type 0 where
+pub record IsCopyOf (part copy : List ℕ) (source : State) (read : List Reading) (old new : List DeviceCall) (text : List ℕ) : Type 0 where
   pub next : ℕ
   pub begun : State
   pub left : State
-  pub uses : new ≡ old ++ Begins part begun ∷ Leaves left ∷ Links part copy ∷ []
-  pub is : keeps → new_keeps → IsBackup source.now.bytes begun.now.bytes left.now next
+  pub copied : List Reading
+  pub uses : new ≡ old ++ Begins part begun ∷ Leaves left copied ∷ Links part copy ∷ []
+  pub is : AreTrue read → AreTrue copied → IsBackup source.now.bytes begun.now.bytes left.now next
   pub line : text ≡ copied_line next
 
 -- A device was opened to be only read, and nothing was written to it. A copy of it was begun at `part`, filled, given back, and got its name. Then
 -- the device was given back. The text is the line of this copy.
-pub record IsBackedUp (keeps new_keeps : Type 0) (device part copy : List ℕ) (old new : List DeviceCall) (text : List ℕ) : Type 0 where
+pub record IsBackedUp (device part copy : List ℕ) (old new : List DeviceCall) (text : List ℕ) : Type 0 where
   pub next : ℕ
   pub opened : State
   pub begun : State
   pub left : State
+  pub copied : List Reading
   pub closed : State
-  pub uses : new ≡ old ++ Looks device opened ∷ Begins part begun ∷ Leaves left ∷ Links part copy ∷ Leaves closed ∷ []
-  pub is : keeps → new_keeps → IsBackup opened.now.bytes begun.now.bytes left.now next
-  pub unwritten : keeps → LeavesNothingNew opened closed
+  pub read : List Reading
+  pub uses : new ≡ old ++ Looks device opened ∷ Begins part begun ∷ Leaves left copied ∷ Links part copy ∷ Leaves closed read ∷ []
+  pub is : AreTrue read → AreTrue copied → IsBackup opened.now.bytes begun.now.bytes left.now next
+  pub unwritten : LeavesNothingNew opened closed
   pub line : text ≡ copied_line next
 
 -- There is such a copy, and exactly its line was printed.
-pub record HasBackup (keeps new_keeps : Type 0) (device part copy : List ℕ) (old new : List DeviceCall) (was now : Option (List ℕ)) : Type 0 where
+pub record HasBackup (device part copy : List ℕ) (old new : List DeviceCall) (was now : Option (List ℕ)) : Type 0 where
   pub text : List ℕ
-  pub made : IsBackedUp keeps new_keeps device part copy old new text
+  pub made : IsBackedUp device part copy old new text
   pub printed : Appends was now text
 
 -- A request to stop was to be made again for a device, any number of times, and each time it was made or not.

@@ -1,7 +1,7 @@
 //! `tpnet backup`, over any device and any copy.
 
-ghost use Rattle.std.specs.Prelude.{◌≡◌, IfErr, IfOk, IfSome, IsErr, IsSomeAnd, string_bytes};
-ghost use Rattle.tp_program.specs.Lower.{AskedLast, CopyAnswer, area_kept, verdict, LeavesNothingNew};
+ghost use Rattle.std.specs.Prelude.{◌≡◌, IfErr, IfNone, IfOk, IfSome, IsErr, IsSome, IsSomeAnd, string_bytes};
+ghost use Rattle.tp_program.specs.Lower.{AreTrue, WereTrue, AskedLast, CopyAnswer, HasStayed, area_kept, verdict, LeavesNothingNew};
 ghost use Rattle.tp_program.specs.Backups.{FoundAsOpened, IsBackup, copied_line, copy_refusal};
 
 use std::alloc::{AllocError, Global};
@@ -41,9 +41,11 @@ fn copy_or_refuse<D: Disk, K: Disk, E: Write>(
     err: &mut E,
 ) -> Result<Option<Copied>, u8>
     ensures status { IfErr result (λ status. status ≡ 1) }
-    ensures kept { D.keeps → IfOk result (λ found. (D.state source.new).now ≡ (D.state source.old).now) }
-    ensures leaves { D.keeps → LeavesNothingNew (D.state source.old) (D.state source.new) }
-    ensures is { D.keeps → K.keeps → IfOk result (CopyAnswer (area_kept opened) (D.state source.old).now.bytes (K.state copy.old).now (K.state copy.new).now) }
+    ensures premise { WereTrue (D.reads source.old) (D.reads source.new) }
+    ensures kept { IfOk result (λ found. (D.state source.new).now ≡ (D.state source.old).now) }
+    ensures leaves { LeavesNothingNew (D.state source.old) (D.state source.new) }
+    ensures is { AreTrue (D.reads source.new) → AreTrue (K.reads copy.new) → IfOk result (CopyAnswer (area_kept opened) (D.state source.old).now.bytes (K.state copy.old).now (K.state copy.new).now) }
+    ensures stayed { AreTrue (D.reads source.new) → IfOk result (λ found. IfNone found (HasStayed (area_kept opened) (D.state source.old).now.bytes → ⊥)) }
     ensures asked { IfOk result (λ found. IfSome found (λ copied. AskedLast (area_kept opened) (D.state source.new) copied.asked)) }
 {
     match copy_opened(alloc, source, copy, opened) {
@@ -53,8 +55,8 @@ fn copy_or_refuse<D: Disk, K: Disk, E: Write>(
 }
 
 /// Opens and copies a device once. Answers `None` if another process wrote the device meanwhile, and another try may succeed: `show` then opens it,
-/// or another area is open now than the one that was copied. If both devices keep the model, it never answers `None`. If it fails, it says why there
-/// is no copy, and fails with the status.
+/// or another area is open now than the one that was copied. If each read of the device gave what it held, it never answers `None`. If it fails, it
+/// says why there is no copy, and fails with the status.
 fn copy_once<D: Disk, K: Disk, E: Write>(
     alloc: Global,
     source: &mut D,
@@ -62,11 +64,13 @@ fn copy_once<D: Disk, K: Disk, E: Write>(
     err: &mut E,
 ) -> Result<Option<Copied>, u8>
     ensures status { IfErr result (λ status. status ≡ 1) }
-    ensures kept { D.keeps → IfOk result (λ found. (D.state source.new).now.bytes ≡ (D.state source.old).now.bytes) }
-    ensures leaves { D.keeps → LeavesNothingNew (D.state source.old) (D.state source.new) }
-    ensures copied { D.keeps → K.keeps → IfOk result (λ found. IsSomeAnd found (λ copied. IsBackup (D.state source.old).now.bytes (K.state copy.old).now.bytes (K.state copy.new).now copied.next)) }
-    ensures asked { IfOk result (λ found. IfSome found (λ copied. FoundAsOpened D.keeps (D.state source.old).now.bytes (D.state source.new) copied.asked)) }
-    ensures unopened { D.keeps → IsErr (verdict (D.state source.old).now.bytes) → IsErr result }
+    ensures premise { WereTrue (D.reads source.old) (D.reads source.new) }
+    ensures kept { AreTrue (D.reads source.new) → IfOk result (λ found. (D.state source.new).now.bytes ≡ (D.state source.old).now.bytes) }
+    ensures leaves { LeavesNothingNew (D.state source.old) (D.state source.new) }
+    ensures copied { AreTrue (D.reads source.new) → AreTrue (K.reads copy.new) → IfOk result (λ found. IsSomeAnd found (λ copied. IsBackup (D.state source.old).now.bytes (K.state copy.old).now.bytes (K.state copy.new).now copied.next)) }
+    ensures some { AreTrue (D.reads source.new) → IfOk result IsSome }
+    ensures asked { IfOk result (λ found. IfSome found (λ copied. FoundAsOpened (AreTrue (D.reads source.new)) (D.state source.old).now.bytes (D.state source.new) copied.asked)) }
+    ensures unopened { AreTrue (D.reads source.new) → IsErr (verdict (D.state source.old).now.bytes) → IsErr result }
 {
     match open(alloc, source) {
         Ok(opened) => copy_or_refuse(alloc, source, copy, opened, err),
@@ -92,10 +96,11 @@ pub fn backup_on<D: Disk, K: Disk, E: Write>(
     err: &mut E,
 ) -> Result<Copied, u8>
     ensures status { IfErr result (λ status. status ≡ 1) }
-    ensures leaves { D.keeps → LeavesNothingNew (D.state source.old) (D.state source.new) }
-    ensures copied { D.keeps → K.keeps → IfOk result (λ copied. IsBackup (D.state source.old).now.bytes (K.state copy.old).now.bytes (K.state copy.new).now copied.next) }
-    ensures asked { IfOk result (λ copied. FoundAsOpened D.keeps (D.state source.old).now.bytes (D.state source.new) copied.asked) }
-    ensures unopened { D.keeps → IsErr (verdict (D.state source.old).now.bytes) → IsErr result }
+    ensures premise { WereTrue (D.reads source.old) (D.reads source.new) }
+    ensures leaves { LeavesNothingNew (D.state source.old) (D.state source.new) }
+    ensures copied { AreTrue (D.reads source.new) → AreTrue (K.reads copy.new) → IfOk result (λ copied. IsBackup (D.state source.old).now.bytes (K.state copy.old).now.bytes (K.state copy.new).now copied.next) }
+    ensures asked { IfOk result (λ copied. FoundAsOpened (AreTrue (D.reads source.new)) (D.state source.old).now.bytes (D.state source.new) copied.asked) }
+    ensures unopened { AreTrue (D.reads source.new) → IsErr (verdict (D.state source.old).now.bytes) → IsErr result }
 {
     let mut left = MAX_TRIES;
     while left > 0 {

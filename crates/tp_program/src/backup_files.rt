@@ -7,7 +7,7 @@ ghost use Rattle.tp_program.specs.Uses.{HasBackup, IsBackedUp, IsCopyOf, IsFille
 
 use crate::backing_up::{backup_on, copied_line};
 use crate::devices::Devices;
-use crate::files::{disk_in, file_to_read};
+use crate::files::file_to_read;
 use crate::folders::sync_folder;
 use crate::rights::Rights;
 use std::alloc::Global;
@@ -15,7 +15,7 @@ use std::fs::{Files, Metadata, OpenFile, OpenOptions};
 use std::io::Write;
 use std::os::unix::fs::{FileExt, OpenOptionsExt};
 use std::{fs, io};
-use tp_disk::{Counted, Disk, NewDisk, NewFile, NotedFile, RawFile};
+use tp_disk::{Counted, Disk, NewDisk, NewFile, NotedFile};
 use tp_stream_files::{FileNumbers, is_one_file, numbers_in};
 use tp_views::{Refusal, put, refuse};
 use tp_words::Backup;
@@ -164,8 +164,8 @@ fn fill_part<S: Devices<New = N>, N: Disk + Drop, D: Disk, E: Write>(
     copy: N,
     err: &mut E,
 ) -> Result<String, Undone>
-    ensures filled { IfOk result (λ text. IsFilled D.keeps N.keeps (D.state source.old) (N.state copy) (S.uses devices.old) (S.uses devices.new) (string_bytes text)) }
-    ensures unwritten { D.keeps → LeavesNothingNew (D.state source.old) (D.state source.new) }
+    ensures filled { IfOk result (λ text. IsFilled (D.state source.old) (D.reads source.new) (N.state copy) (S.uses devices.old) (S.uses devices.new) (string_bytes text)) }
+    ensures unwritten { LeavesNothingNew (D.state source.old) (D.state source.new) }
     ensures uncalled { S.calls devices.new ≡ S.calls devices.old }
 {
     let mut copy = copy;
@@ -242,8 +242,8 @@ fn fill_and_name<S: Devices<New = N>, N: Disk + Drop, D: Disk, E: Write>(
     numbers: Option<FileNumbers>,
     err: &mut E,
 ) -> Result<String, Undone>
-    ensures linked { IfOk result (λ text. IsLinked D.keeps N.keeps names.now.part.now names.now.copy.now (D.state source.old) (N.state copy) (S.uses devices.old) (S.uses devices.new) (string_bytes text)) }
-    ensures unwritten { D.keeps → LeavesNothingNew (D.state source.old) (D.state source.new) }
+    ensures linked { IfOk result (λ text. IsLinked names.now.part.now names.now.copy.now (D.state source.old) (D.reads source.new) (N.state copy) (S.uses devices.old) (S.uses devices.new) (string_bytes text)) }
+    ensures unwritten { LeavesNothingNew (D.state source.old) (D.state source.new) }
     ensures uncalled { S.calls devices.new ≡ S.calls devices.old }
 {
     let text = fill_part(alloc, devices, source, copy, err)?;
@@ -260,8 +260,8 @@ fn make_copy<R: Files + AllocGlobal, S: Devices<New = N>, N: Disk + Drop, D: Dis
     names: &Names<'_>,
     err: &mut E,
 ) -> Result<String, Undone>
-    ensures copied { IfOk result (λ text. IsCopyOf D.keeps N.keeps names.now.part.now names.now.copy.now (D.state source.old) (S.uses devices.old) (S.uses devices.new) (string_bytes text)) }
-    ensures unwritten { D.keeps → LeavesNothingNew (D.state source.old) (D.state source.new) }
+    ensures copied { IfOk result (λ text. IsCopyOf names.now.part.now names.now.copy.now (D.state source.old) (D.reads source.new) (S.uses devices.old) (S.uses devices.new) (string_bytes text)) }
+    ensures unwritten { LeavesNothingNew (D.state source.old) (D.state source.new) }
     ensures uncalled { S.calls devices.new ≡ S.calls devices.old }
 {
     let (copy, numbers) = devices.begin_copy(names.part, rights, source.size())?;
@@ -272,16 +272,16 @@ fn make_copy<R: Files + AllocGlobal, S: Devices<New = N>, N: Disk + Drop, D: Dis
     made
 }
 
-/// Opens a device's file to be only read. Answers the device, and the rights of its file.
-pub(crate) fn source_of<R: Files<File = F>, F: FileExt + OpenFile + Drop>(
+/// Opens a device's file to be only read. Answers the file, and its rights.
+pub(crate) fn source_of<R: Files<File = F>, F: OpenFile + Drop>(
     rt: &R,
     device: &str,
-) -> Result<(Counted<RawFile<NotedFile<F>>>, Rights), Refusal> {
+) -> Result<(F, Rights), Refusal> {
     let file = file_to_read(rt, device)?;
     let Ok(kept) = file.metadata() else {
         return Err(Refusal::ReadFailed);
     };
-    Ok((disk_in(file)?, Rights::of(&kept)))
+    Ok((file, Rights::of(&kept)))
 }
 
 /// Opens a device to be only read, makes its copy under these names, and gives the device back. Answers the line to print.
@@ -292,7 +292,7 @@ fn copy_device<
     N: Disk + Drop,
     E: Write,
 >(rt: &R, devices: &mut S, device: &str, names: &Names<'_>, err: &mut E) -> Result<String, Undone>
-    ensures made { IfOk result (λ text. IsBackedUp D.keeps N.keeps device.now names.now.part.now names.now.copy.now (S.uses devices.old) (S.uses devices.new) (string_bytes text)) }
+    ensures made { IfOk result (λ text. IsBackedUp device.now names.now.part.now names.now.copy.now (S.uses devices.old) (S.uses devices.new) (string_bytes text)) }
     ensures uncalled { S.calls devices.new ≡ S.calls devices.old }
 {
     let (mut source, rights) = match devices.look_to_copy(device) {
@@ -324,7 +324,7 @@ fn backup_as<
     err: &mut E,
 ) -> Result<(), Undone>
     ensures printed { OnOk result (PrintsCopied (O.contents out.old) (O.contents out.new)) }
-    ensures made { OnOk result (HasBackup D.keeps N.keeps device.now names.now.part.now names.now.copy.now (S.uses devices.old) (S.uses devices.new) (O.contents out.old) (O.contents out.new)) }
+    ensures made { OnOk result (HasBackup device.now names.now.part.now names.now.copy.now (S.uses devices.old) (S.uses devices.new) (O.contents out.old) (O.contents out.new)) }
     ensures uncalled { S.calls devices.new ≡ S.calls devices.old }
 {
     ask_names(rt, device, names)?;
@@ -346,7 +346,7 @@ pub(crate) fn backup_file<
     E: Write,
 >(rt: &R, devices: &mut S, backup: &Backup, out: &mut O, err: &mut E) -> Result<(), Undone>
     ensures printed { OnOk result (PrintsCopied (O.contents out.old) (O.contents out.new)) }
-    ensures made { OnOk result (HasBackup D.keeps N.keeps (string_bytes backup.now.device) (part_of (string_bytes backup.now.copy)) (string_bytes backup.now.copy) (S.uses devices.old) (S.uses devices.new) (O.contents out.old) (O.contents out.new)) }
+    ensures made { OnOk result (HasBackup (string_bytes backup.now.device) (part_of (string_bytes backup.now.copy)) (string_bytes backup.now.copy) (S.uses devices.old) (S.uses devices.new) (O.contents out.old) (O.contents out.new)) }
     ensures uncalled { S.calls devices.new ≡ S.calls devices.old }
 {
     let (device, copy) = (backup.device.as_str(), backup.copy.as_str());

@@ -28,7 +28,7 @@ pub(crate) fn answer_backup<
 >(rt: &R, devices: &mut S, backup: &Backup, explains: bool, out: &mut O, err: &mut E) -> u8
     ensures few { result ≤ 2 }
     ensures printed { result ≡ 0 → PrintsCopied (O.contents out.old) (O.contents out.new) }
-    ensures made { result ≡ 0 → HasBackup D.keeps N.keeps (string_bytes backup.now.device) (part_of (string_bytes backup.now.copy)) (string_bytes backup.now.copy) (S.uses devices.old) (S.uses devices.new) (O.contents out.old) (O.contents out.new) }
+    ensures made { result ≡ 0 → HasBackup (string_bytes backup.now.device) (part_of (string_bytes backup.now.copy)) (string_bytes backup.now.copy) (S.uses devices.old) (S.uses devices.new) (O.contents out.old) (O.contents out.new) }
     ensures uncalled { S.calls devices.new ≡ S.calls devices.old }
 {
     if prints_into(rt, backup.device.as_str()) {

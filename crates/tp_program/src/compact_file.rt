@@ -33,7 +33,7 @@ pub(crate) fn compact_file<
     ghost history: { History }
     requires { S.held devices.old ≡ Some (string_bytes device.now) }
     ensures few { result ≤ 1 }
-    ensures compacted { CompactedFile D.keeps history (string_bytes device.now) (S.calls devices.old) (S.calls devices.new) (O.contents out.old) (O.contents out.new) result }
+    ensures compacted { CompactedFile history (string_bytes device.now) (S.calls devices.old) (S.calls devices.new) (O.contents out.old) (O.contents out.new) result }
 {
     if !is_openable(rt, device.as_str()) {
         return refuse_special(devices, device.as_str(), system, err);

@@ -1,7 +1,7 @@
 //! `tpnet compact`, over any device.
 
 ghost use Rattle.std.specs.Prelude.{◌≡◌, ◌≤◌, IfErr, IfOk, IsErr, Ok, OnOk, string_bytes};
-ghost use Rattle.tp_program.specs.Lower.{Appends, verdict, LeavesNothingNew, History};
+ghost use Rattle.tp_program.specs.Lower.{AreTrue, Appends, verdict, LeavesNothingNew, History};
 ghost use Rattle.tp_program.specs.Compacting.{CompactedAs, PrintsDone, compaction_line};
 
 use std::alloc::Global;
@@ -76,8 +76,8 @@ pub fn compact_on<D: Disk, O: Write, E: Write, R: Wait>(
     ghost history: { History }
     ensures status { result.1 ≤ 1 }
     ensures size { D.size_of result.0 ≡ D.size_of disk }
-    ensures done { CompactedAs D.keeps history (D.state disk) (D.state result.0) (O.contents out.old) (O.contents out.new) result.1 }
-    ensures unopened { D.keeps → IsErr (verdict (D.state disk).now.bytes) → (result.1 ≡ 1) × LeavesNothingNew (D.state disk) (D.state result.0) × (O.contents out.new ≡ O.contents out.old) }
+    ensures done { CompactedAs history (D.state disk) (D.state result.0) (D.reads result.0) (O.contents out.old) (O.contents out.new) result.1 }
+    ensures unopened { AreTrue (D.reads result.0) → IsErr (verdict (D.state disk).now.bytes) → (result.1 ≡ 1) × LeavesNothingNew (D.state disk) (D.state result.0) × (O.contents out.new ≡ O.contents out.old) }
 {
     let (disk, done) = compact(rt, alloc, disk);
     (disk, report(alloc, done, out, err))

@@ -56,7 +56,7 @@ impl DeviceCalls {
 
     /// Notes that a device was given back.
     pub(crate) fn closed<D: Disk>(&self, device: &D) -> DeviceCalls
-        ensures { result.told ≡ self.now.told ++ Closes (D.state device.now) ∷ [] }
+        ensures { result.told ≡ self.now.told ++ Closes (D.state device.now) (D.reads device.now) ∷ [] }
     {
         DeviceCalls::of(&(self, device))
     }
@@ -84,7 +84,7 @@ impl DeviceCalls {
 
     /// Notes that such a device was given back.
     pub(crate) fn left<D: Disk>(&self, device: &D) -> DeviceCalls
-        ensures { result.told ≡ self.now.told ++ Leaves (D.state device.now) ∷ [] }
+        ensures { result.told ≡ self.now.told ++ Leaves (D.state device.now) (D.reads device.now) ∷ [] }
     {
         DeviceCalls::of(&(self, device))
     }

@@ -1,16 +1,18 @@
 //! The devices and files of commands: they are held, made, opened, read, copied and given back.
 
 ghost use Rattle.std.specs.Prelude.{◌≡◌, ℕ, true, false, List, [], ◌∷◌, ◌++◌, Option, Some, None, is_ok, IfOk, IsErrAnd, OnOk, OnErr};
-ghost use Rattle.tp_program.specs.Lower.{error_kind, option_map};
+ghost use Rattle.tp_program.specs.Lower.{error_kind, option_map, begins, Medium};
 ghost use Rattle.tp_program.specs.Devices.{DeviceCall, Holds, Makes, Opens, Closes, Reads, Looks, Begins, Leaves, Links, Requests, path_held};
+ghost use Rattle.tp_program.specs.Media.{medium_at};
 ghost use Rattle.tp_program.specs.Stops.{WasHeldElsewhere, request_path};
 
 use crate::backup_files::{Undone, begun_copy, name_copy, source_of};
 use crate::device_calls::DeviceCalls;
-use crate::files::{disk_to_read, read_refusal};
+use crate::files::{file_to_read, read_refusal};
 use crate::folders::sync_folder;
 use crate::in_use::{changed, is_busy};
 use crate::locks::{Held, InUse, Locks};
+use crate::media::Media;
 use crate::request_file::make_request;
 use crate::rights::Rights;
 use std::fs::{Files, OpenFile, OpenOptions};
@@ -90,7 +92,7 @@ pub trait Devices {
 
     /// Takes a device back. Answers what the system said of the last call on it that failed; `None` if none did.
     fn close(&mut self, device: Self::Device) -> Option<io::Error>
-        ensures noted { calls self.new ≡ calls self.old ++ Closes (Self.Device.state device) ∷ [] }
+        ensures noted { calls self.new ≡ calls self.old ++ Closes (Self.Device.state device) (Self.Device.reads device) ∷ [] }
         ensures kept { held self.new ≡ held self.old }
         ensures unused { uses self.new ≡ uses self.old };
 
@@ -117,7 +119,7 @@ pub trait Devices {
 
     /// Takes back a device that was only read.
     fn leave(&mut self, device: Self::Device)
-        ensures noted { uses self.new ≡ uses self.old ++ Leaves (Self.Device.state device) ∷ [] }
+        ensures noted { uses self.new ≡ uses self.old ++ Leaves (Self.Device.state device) (Self.Device.reads device) ∷ [] }
         ensures uncalled { calls self.new ≡ calls self.old }
         ensures kept { held self.new ≡ held self.old };
 
@@ -154,7 +156,7 @@ pub trait Devices {
 
     /// Takes back a device that was begun. Answers what the system said of the call on it that failed; `None` if none did.
     fn finish(&mut self, device: Self::New) -> Option<io::Error>
-        ensures noted { uses self.new ≡ uses self.old ++ Leaves (Self.New.state device) ∷ [] }
+        ensures noted { uses self.new ≡ uses self.old ++ Leaves (Self.New.state device) (Self.New.reads device) ∷ [] }
         ensures uncalled { calls self.new ≡ calls self.old }
         ensures kept { held self.new ≡ held self.old };
 
@@ -175,7 +177,7 @@ pub trait Devices {
         ensures kept { held self.new ≡ held self.old };
 }
 
-/// Devices in files of the system.
+/// Devices in files of the system. What each device that is opened holds, as far as no call tells it, is what `new` was told of it.
 ///
 /// Each method here makes the one call that it notes. That is known by reading alone: no contract can say what a file takes.
 #[derive(Drop)]
@@ -186,11 +188,14 @@ pub struct FileDevices<'r, R, L: Drop, K: Drop> {
     held: Option<Held<K>>,
     noted: DeviceCalls,
     used: DeviceCalls,
+    media: Media,
 }
 
 impl<'r, R, L: Drop, K: Drop> FileDevices<'r, R, L, K> {
-    /// Begins with no device asked for.
+    /// Begins with no device asked for. What the devices hold that are opened is the ghost value `media`.
     pub fn new(rt: &'r R, locks: L) -> FileDevices<'r, R, L, K>
+        ghost media: { List Medium }
+        ensures media { result.media.told ≡ media }
         ensures none { result.noted.told ≡ [] }
         ensures free { result.held ≡ None }
         ensures unused { result.used.told ≡ [] }
@@ -201,6 +206,33 @@ impl<'r, R, L: Drop, K: Drop> FileDevices<'r, R, L, K> {
             held: None,
             noted: DeviceCalls::new(),
             used: DeviceCalls::new(),
+            media: Media::of(&()),
+        }
+    }
+
+    /// Makes the device in a file that was opened. Fails as the system does.
+    fn device_in<F: FileExt + OpenFile + Drop>(
+        &self,
+        file: F,
+    ) -> io::Result<Counted<RawFile<NotedFile<F>>>>
+        ensures state { IfOk result (λ device. ⟦<Counted<RawFile<NotedFile<F>>> as Disk>⟧.state device ≡ begins (medium_at self.now.media.told self.now.noted.told self.now.used.told) (⟦<Counted<RawFile<NotedFile<F>>> as Disk>⟧.size_of device)) }
+        ensures reads { IfOk result (λ device. ⟦<Counted<RawFile<NotedFile<F>>> as Disk>⟧.reads device ≡ []) }
+    {
+        let file = NotedFile::new(file);
+        self.media.device_in(file, &self.noted, &self.used)
+    }
+
+    /// Makes the device in a file that was opened to be only read.
+    fn device_to_read<F: FileExt + OpenFile + Drop>(
+        &self,
+        file: F,
+    ) -> Result<Counted<RawFile<NotedFile<F>>>, Refusal>
+        ensures state { IfOk result (λ device. ⟦<Counted<RawFile<NotedFile<F>>> as Disk>⟧.state device ≡ begins (medium_at self.now.media.told self.now.noted.told self.now.used.told) (⟦<Counted<RawFile<NotedFile<F>>> as Disk>⟧.size_of device)) }
+        ensures reads { IfOk result (λ device. ⟦<Counted<RawFile<NotedFile<F>>> as Disk>⟧.reads device ≡ []) }
+    {
+        match self.device_in(file) {
+            Ok(device) => Ok(device),
+            Err(_) => Err(Refusal::ReadFailed),
         }
     }
 }
@@ -249,8 +281,20 @@ impl<
         }
     }
 
-    fn open(&mut self, path: &str) -> io::Result<Counted<RawFile<NotedFile<F>>>> {
-        let opened = Counted::open(self.rt, path);
+    fn open(&mut self, path: &str) -> io::Result<Counted<RawFile<NotedFile<F>>>>
+        requires { option_map (λ held. path_held held.noted.told) self.old.held ≡ Some path.now }
+        ensures opened { IfOk result (λ device. self.new.noted.told ≡ self.old.noted.told ++ Opens path.now (⟦<Counted<RawFile<NotedFile<F>>> as Disk>⟧.state device) ∷ []) }
+        ensures refused { OnErr result (self.new.noted.told ≡ self.old.noted.told) }
+        ensures kept { option_map (λ held. path_held held.noted.told) self.new.held ≡ option_map (λ held. path_held held.noted.told) self.old.held }
+        ensures unused { self.new.used.told ≡ self.old.used.told }
+        ensures state { IfOk result (λ device. ⟦<Counted<RawFile<NotedFile<F>>> as Disk>⟧.state device ≡ begins (medium_at self.old.media.told self.old.noted.told self.old.used.told) (⟦<Counted<RawFile<NotedFile<F>>> as Disk>⟧.size_of device)) }
+        ensures reads { IfOk result (λ device. ⟦<Counted<RawFile<NotedFile<F>>> as Disk>⟧.reads device ≡ []) }
+        ensures media { self.new.media.told ≡ self.old.media.told }
+    {
+        let opened = match file_to_write(self.rt, path) {
+            Ok(file) => self.device_in(file),
+            Err(error) => Err(error),
+        };
         let device = kept_only(opened, self.is_kept(path))?;
         self.noted = self.noted.opened(path, &device);
         Ok(device)
@@ -267,8 +311,17 @@ impl<
         Ok(bytes)
     }
 
-    fn look(&mut self, path: &str) -> Result<Counted<RawFile<NotedFile<F>>>, Refusal> {
-        let device = disk_to_read(self.rt, path)?;
+    fn look(&mut self, path: &str) -> Result<Counted<RawFile<NotedFile<F>>>, Refusal>
+        ensures looked { IfOk result (λ device. self.new.used.told ≡ self.old.used.told ++ Looks path.now (⟦<Counted<RawFile<NotedFile<F>>> as Disk>⟧.state device) ∷ []) }
+        ensures refused { OnErr result (self.new.used.told ≡ self.old.used.told) }
+        ensures uncalled { self.new.noted.told ≡ self.old.noted.told }
+        ensures kept { option_map (λ held. path_held held.noted.told) self.new.held ≡ option_map (λ held. path_held held.noted.told) self.old.held }
+        ensures state { IfOk result (λ device. ⟦<Counted<RawFile<NotedFile<F>>> as Disk>⟧.state device ≡ begins (medium_at self.old.media.told self.old.noted.told self.old.used.told) (⟦<Counted<RawFile<NotedFile<F>>> as Disk>⟧.size_of device)) }
+        ensures reads { IfOk result (λ device. ⟦<Counted<RawFile<NotedFile<F>>> as Disk>⟧.reads device ≡ []) }
+        ensures media { self.new.media.told ≡ self.old.media.told }
+    {
+        let file = file_to_read(self.rt, path)?;
+        let device = self.device_to_read(file)?;
         self.used = self.used.looked(path, &device);
         Ok(device)
     }
@@ -276,8 +329,17 @@ impl<
     fn look_to_copy(
         &mut self,
         path: &str,
-    ) -> Result<(Counted<RawFile<NotedFile<F>>>, Rights), Refusal> {
-        let (device, rights) = source_of(self.rt, path)?;
+    ) -> Result<(Counted<RawFile<NotedFile<F>>>, Rights), Refusal>
+        ensures looked { IfOk result (λ found. self.new.used.told ≡ self.old.used.told ++ Looks path.now (⟦<Counted<RawFile<NotedFile<F>>> as Disk>⟧.state found.0) ∷ []) }
+        ensures refused { OnErr result (self.new.used.told ≡ self.old.used.told) }
+        ensures uncalled { self.new.noted.told ≡ self.old.noted.told }
+        ensures kept { option_map (λ held. path_held held.noted.told) self.new.held ≡ option_map (λ held. path_held held.noted.told) self.old.held }
+        ensures state { IfOk result (λ found. ⟦<Counted<RawFile<NotedFile<F>>> as Disk>⟧.state found.0 ≡ begins (medium_at self.old.media.told self.old.noted.told self.old.used.told) (⟦<Counted<RawFile<NotedFile<F>>> as Disk>⟧.size_of found.0)) }
+        ensures reads { IfOk result (λ found. ⟦<Counted<RawFile<NotedFile<F>>> as Disk>⟧.reads found.0 ≡ []) }
+        ensures media { self.new.media.told ≡ self.old.media.told }
+    {
+        let (file, rights) = source_of(self.rt, path)?;
+        let device = self.device_to_read(file)?;
         self.used = self.used.looked(path, &device);
         Ok((device, rights))
     }
@@ -335,6 +397,12 @@ impl<
         self.used = self.used.requested(path, made.is_ok());
         made
     }
+}
+
+/// Opens the file of a device to be written. It stays as it is.
+fn file_to_write<R: Files<File = F>, F: OpenFile + Drop>(rt: &R, path: &str) -> io::Result<F> {
+    let mut how = OpenOptions::new();
+    how.read(true).write(true).open(rt, path)
 }
 
 /// Gives what the system said of the call by which a device failed.

@@ -14,7 +14,7 @@ use std::io::{ErrorKind, Write};
 use std::os::unix::fs::FileExt;
 use std::thread::Threads;
 use std::{fs, io};
-use tp_disk::{Counted, Disk, NotedFile, RawFile};
+use tp_disk::{Counted, Disk, NotedFile, RawFile, SystemFile};
 use tp_net::{Named, Topology};
 use tp_views::{
     NodeMaps, Refusal, Seen, check_on, is_openable, read_maps, recover_on, refuse, show_on,
@@ -220,7 +220,7 @@ fn view_mapped<R: AllocGlobal, S: Devices<Device = D>, D: Disk + Drop, O: Write,
     requires unnamed { folder.now ≡ None → maps_seen maps.now ≡ no_maps }
     ensures few { result ≤ 2 }
     ensures uncalled { S.calls devices.new ≡ S.calls devices.old }
-    ensures used { WasRefused (S.uses devices.old) (S.uses devices.new) (O.contents out.old) (O.contents out.new) result ⊎ LooksAtOne device.now (S.uses devices.old) (S.uses devices.new) (ViewedBy D.keeps view folder.now (O.contents out.old) (O.contents out.new) result) }
+    ensures used { WasRefused (S.uses devices.old) (S.uses devices.new) (O.contents out.old) (O.contents out.new) result ⊎ LooksAtOne device.now (S.uses devices.old) (S.uses devices.new) (ViewedBy view folder.now (O.contents out.old) (O.contents out.new) result) }
 {
     let mut disk = match devices.look(device) {
         Ok(disk) => disk,
@@ -251,7 +251,7 @@ pub fn view_file<
 ) -> u8
     ensures few { result ≤ 2 }
     ensures uncalled { S.calls devices.new ≡ S.calls devices.old }
-    ensures used { WasRefused (S.uses devices.old) (S.uses devices.new) (O.contents out.old) (O.contents out.new) result ⊎ LooksAtOne device.now (S.uses devices.old) (S.uses devices.new) (ViewedBy D.keeps view folder.now (O.contents out.old) (O.contents out.new) result) }
+    ensures used { WasRefused (S.uses devices.old) (S.uses devices.new) (O.contents out.old) (O.contents out.new) result ⊎ LooksAtOne device.now (S.uses devices.old) (S.uses devices.new) (ViewedBy view folder.now (O.contents out.old) (O.contents out.new) result) }
 {
     let texts = match read_texts(rt, folder) {
         Ok(texts) => texts,
@@ -277,7 +277,7 @@ fn trace_mapped<R: AllocGlobal, S: Devices<Device = D>, D: Disk + Drop, O: Write
     requires unnamed { folder.now ≡ None → maps_seen maps.now ≡ no_maps }
     ensures few { result ≤ 2 }
     ensures uncalled { S.calls devices.new ≡ S.calls devices.old }
-    ensures used { WasRefused (S.uses devices.old) (S.uses devices.new) (O.contents out.old) (O.contents out.new) result ⊎ LooksAtOne device.now (S.uses devices.old) (S.uses devices.new) (TracedBy D.keeps part folder.now (O.contents out.old) (O.contents out.new) result) }
+    ensures used { WasRefused (S.uses devices.old) (S.uses devices.new) (O.contents out.old) (O.contents out.new) result ⊎ LooksAtOne device.now (S.uses devices.old) (S.uses devices.new) (TracedBy part folder.now (O.contents out.old) (O.contents out.new) result) }
 {
     let mut disk = match devices.look(device) {
         Ok(disk) => disk,
@@ -307,7 +307,7 @@ pub fn trace_device_file<
 ) -> u8
     ensures few { result ≤ 2 }
     ensures uncalled { S.calls devices.new ≡ S.calls devices.old }
-    ensures used { WasRefused (S.uses devices.old) (S.uses devices.new) (O.contents out.old) (O.contents out.new) result ⊎ LooksAtOne device.now (S.uses devices.old) (S.uses devices.new) (TracedBy D.keeps part folder.now (O.contents out.old) (O.contents out.new) result) }
+    ensures used { WasRefused (S.uses devices.old) (S.uses devices.new) (O.contents out.old) (O.contents out.new) result ⊎ LooksAtOne device.now (S.uses devices.old) (S.uses devices.new) (TracedBy part folder.now (O.contents out.old) (O.contents out.new) result) }
 {
     let texts = match read_texts(rt, folder) {
         Ok(texts) => texts,
@@ -334,14 +334,9 @@ pub(crate) fn file_to_read<R: Files<File = F>, F: OpenFile + Drop>(
     }
 }
 
-/// The device in an open file.
-pub(crate) fn disk_in<F: FileExt + OpenFile + Drop>(
-    file: F,
-) -> Result<Counted<RawFile<NotedFile<F>>>, Refusal> {
-    let Ok(raw) = RawFile::new(NotedFile::new(file)) else {
-        return Err(Refusal::ReadFailed);
-    };
-    Ok(Counted::new(raw))
+/// The device in an open file. No contract says what it holds. Fails as the system does.
+fn disk_in<F: SystemFile + Drop>(file: F) -> io::Result<Counted<RawFile<F>>> {
+    Ok(Counted::new(RawFile::new(file)?))
 }
 
 /// The device in a file that is there, to be read alone. What is no device's file isn't opened.
@@ -349,7 +344,11 @@ pub(crate) fn disk_to_read<R: Files<File = F>, F: FileExt + OpenFile + Drop>(
     rt: &R,
     device: &str,
 ) -> Result<Counted<RawFile<NotedFile<F>>>, Refusal> {
-    disk_in(file_to_read(rt, device)?)
+    let file = file_to_read(rt, device)?;
+    match disk_in(NotedFile::new(file)) {
+        Ok(disk) => Ok(disk),
+        Err(_) => Err(Refusal::ReadFailed),
+    }
 }
 
 /// `tpnet recover`, on a device's file, which stays as it is.
@@ -363,7 +362,7 @@ pub fn recover_file<
 >(rt: &R, devices: &mut S, device: &str, workers: u8, out: &mut O, err: &mut E) -> u8
     ensures few { result ≤ 1 }
     ensures uncalled { S.calls devices.new ≡ S.calls devices.old }
-    ensures used { WasRefused (S.uses devices.old) (S.uses devices.new) (O.contents out.old) (O.contents out.new) result ⊎ LooksAtOne device.now (S.uses devices.old) (S.uses devices.new) (Shows D.keeps recovered (O.contents out.old) (O.contents out.new) result) }
+    ensures used { WasRefused (S.uses devices.old) (S.uses devices.new) (O.contents out.old) (O.contents out.new) result ⊎ LooksAtOne device.now (S.uses devices.old) (S.uses devices.new) (Shows recovered (O.contents out.old) (O.contents out.new) result) }
 {
     let mut disk = match devices.look(device) {
         Ok(disk) => disk,
@@ -386,7 +385,7 @@ pub fn show_file<R: AllocGlobal, S: Devices<Device = D>, D: Disk + Drop, O: Writ
 ) -> u8
     ensures few { result ≤ 1 }
     ensures uncalled { S.calls devices.new ≡ S.calls devices.old }
-    ensures used { WasRefused (S.uses devices.old) (S.uses devices.new) (O.contents out.old) (O.contents out.new) result ⊎ LooksAtOne device.now (S.uses devices.old) (S.uses devices.new) (Shows D.keeps (shown json) (O.contents out.old) (O.contents out.new) result) }
+    ensures used { WasRefused (S.uses devices.old) (S.uses devices.new) (O.contents out.old) (O.contents out.new) result ⊎ LooksAtOne device.now (S.uses devices.old) (S.uses devices.new) (Shows (shown json) (O.contents out.old) (O.contents out.new) result) }
 {
     let mut disk = match devices.look(device) {
         Ok(disk) => disk,
@@ -420,8 +419,8 @@ fn look_file<R: AllocGlobal, S: Devices<Device = D>, D: Disk + Drop, W: Watch, O
 ) -> Result<Seen, u8>
     ensures status { IfErr result (λ status. status ≡ 1) }
     ensures uncalled { S.calls devices.new ≡ S.calls devices.old }
-    ensures told { IfOk result (λ seen. LooksAtOne device.now (S.uses devices.old) (S.uses devices.new) (Told D.keeps json before.now (O.contents out.old) (O.contents out.new) seen)) }
-    ensures refused { IfErr result (λ status. WasRefused (S.uses devices.old) (S.uses devices.new) (O.contents out.old) (O.contents out.new) status ⊎ (status ≡ 1) × LooksAtOne device.now (S.uses devices.old) (S.uses devices.new) (Untold D.keeps json before.now (O.contents out.old) (O.contents out.new))) }
+    ensures told { IfOk result (λ seen. LooksAtOne device.now (S.uses devices.old) (S.uses devices.new) (Told json before.now (O.contents out.old) (O.contents out.new) seen)) }
+    ensures refused { IfErr result (λ status. WasRefused (S.uses devices.old) (S.uses devices.new) (O.contents out.old) (O.contents out.new) status ⊎ (status ≡ 1) × LooksAtOne device.now (S.uses devices.old) (S.uses devices.new) (Untold json before.now (O.contents out.old) (O.contents out.new))) }
 {
     let (held, at) = (watch.is_held(device), watch.now());
     let clock = clock_of(watch, every);
@@ -465,7 +464,7 @@ pub fn status_file<
 ) -> u8
     ensures few { result ≤ 1 }
     ensures uncalled { S.calls devices.new ≡ S.calls devices.old }
-    ensures used { HasStatus D.keeps json device.now (S.uses devices.old) (S.uses devices.new) (O.contents out.old) (O.contents out.new) result }
+    ensures used { HasStatus json device.now (S.uses devices.old) (S.uses devices.new) (O.contents out.old) (O.contents out.new) result }
 {
     let mut before = match look_file(rt, devices, watch, device, every, &None, json, out, err) {
         Ok(seen) => Some(seen),

@@ -167,7 +167,7 @@ fn format_network<R: Files + AllocGlobal, S: Devices<New = N>, N: Disk + Drop, O
     requires valid { is_topology topology.now ≡ true }
     ensures few { result ≤ 1 }
     ensures made { MadeAtMost (string_bytes new.now.device) (S.calls devices.old) (S.calls devices.new) }
-    ensures formatted { FormattedNetwork N.keeps (string_bytes new.now.device) new.now.area topology.now (map (λ image. image.items) images.now) (S.uses devices.old) (S.uses devices.new) (O.contents out.old) (O.contents out.new) result }
+    ensures formatted { FormattedNetwork (string_bytes new.now.device) new.now.area topology.now (map (λ image. image.items) images.now) (S.uses devices.old) (S.uses devices.new) (O.contents out.old) (O.contents out.new) result }
 {
     if !devices.is_kept(new.device.as_str()) {
         *system = Some(changed());
@@ -205,7 +205,7 @@ fn format_named<R: Files + AllocGlobal, S: Devices<New = N>, N: Disk + Drop, O: 
     requires held { S.held devices.old ≡ Some (string_bytes new.now.device) }
     ensures few { result ≤ 2 }
     ensures made { MadeAtMost (string_bytes new.now.device) (S.calls devices.old) (S.calls devices.new) }
-    ensures formatted { FormattedNamed N.keeps (sources_of (string_bytes new.now.topology) (string_bytes new.now.images) (map (λ name. name.now) named.now.names.items)) (string_bytes new.now.device) new.now.area named.now.topology (map (λ image. image.items) images.now) (S.uses devices.old) (S.uses devices.new) (O.contents out.old) (O.contents out.new) result }
+    ensures formatted { FormattedNamed (sources_of (string_bytes new.now.topology) (string_bytes new.now.images) (map (λ name. name.now) named.now.names.items)) (string_bytes new.now.device) new.now.area named.now.topology (map (λ image. image.items) images.now) (S.uses devices.old) (S.uses devices.new) (O.contents out.old) (O.contents out.new) result }
 {
     if let Some(status) = refuse_sources(rt, new, named.names.as_slice(), err) {
         return status;
@@ -228,7 +228,7 @@ fn format_text<R: Files + AllocGlobal, S: Devices<New = N>, N: Disk + Drop, O: W
     requires held { S.held devices.old ≡ Some (string_bytes new.now.device) }
     ensures few { result ≤ 2 }
     ensures made { MadeAtMost (string_bytes new.now.device) (S.calls devices.old) (S.calls devices.new) }
-    ensures formatted { FormattedText N.keeps text.now (string_bytes new.now.topology) (string_bytes new.now.images) (string_bytes new.now.device) new.now.area (S.uses devices.old) (S.uses devices.new) (O.contents out.old) (O.contents out.new) result }
+    ensures formatted { FormattedText text.now (string_bytes new.now.topology) (string_bytes new.now.images) (string_bytes new.now.device) new.now.area (S.uses devices.old) (S.uses devices.new) (O.contents out.old) (O.contents out.new) result }
 {
     match read_network(rt, devices, text, new.images.as_str()) {
         Ok((named, images)) => {
@@ -268,7 +268,7 @@ pub(crate) fn format_file<
     requires held { S.held devices.old ≡ Some (string_bytes new.now.device) }
     ensures few { result ≤ 2 }
     ensures made { MadeAtMost (string_bytes new.now.device) (S.calls devices.old) (S.calls devices.new) }
-    ensures formatted { FormattedFile N.keeps new.now (S.uses devices.old) (S.uses devices.new) (O.contents out.old) (O.contents out.new) result }
+    ensures formatted { FormattedFile new.now (S.uses devices.old) (S.uses devices.new) (O.contents out.old) (O.contents out.new) result }
 {
     match read_source(rt, devices, new.topology.as_str()) {
         Ok(text) => format_text(rt, devices, new, text.as_slice(), system, out, err),

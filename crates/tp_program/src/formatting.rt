@@ -21,14 +21,14 @@ fn make<D: Disk, O: Write>(
     out: &mut O,
 ) -> Result<(), Refusal>
     requires valid { is_topology topology.now ≡ true }
-    ensures formatted { D.keeps → OnOk result (Formatted topology.now (map (λ image. image.items) images.now) (areas_of_length (version_for topology.now) (wanted_area topology.now area)) (D.state disk.old) (D.state disk.new)) }
+    ensures formatted { OnOk result (Formatted topology.now (map (λ image. image.items) images.now) (areas_of_length (version_for topology.now) (wanted_area topology.now area)) (D.state disk.old) (D.state disk.new)) }
     ensures fits { OnOk result (fits_device (D.size_of disk.old) topology.now (areas_of_length (version_for topology.now) (wanted_area topology.now area)) ≡ true) }
     ensures printed { OnOk result (Appends (O.contents out.old) (O.contents out.new) formatted_text) }
     ensures refused { start_of topology.now (map (λ image. image.items) images.now) ≡ None → (IsErr result) × (disk.new ≡ disk.old) × (O.contents out.new ≡ O.contents out.old) }
     ensures small { fits_device (D.size_of disk.old) topology.now (areas_of_length (version_for topology.now) (wanted_area topology.now area)) ≡ false → (IsErr result) × (disk.new ≡ disk.old) × (O.contents out.new ≡ O.contents out.old) }
     ensures front { AppendsFront (O.contents out.old) (O.contents out.new) formatted_text }
-    ensures said { D.keeps → (O.contents out.new ≡ O.contents out.old) ⊎ Formatted topology.now (map (λ image. image.items) images.now) (areas_of_length (version_for topology.now) (wanted_area topology.now area)) (D.state disk.old) (D.state disk.new) }
-    ensures leaves { D.keeps → LeavesOnly (D.state disk.old) (D.state disk.new) (IsOldOrNew topology.now (map (λ image. image.items) images.now) (areas_of_length (version_for topology.now) (wanted_area topology.now area)) (D.state disk.old)) }
+    ensures said { (O.contents out.new ≡ O.contents out.old) ⊎ Formatted topology.now (map (λ image. image.items) images.now) (areas_of_length (version_for topology.now) (wanted_area topology.now area)) (D.state disk.old) (D.state disk.new) }
+    ensures leaves { LeavesOnly (D.state disk.old) (D.state disk.new) (IsOldOrNew topology.now (map (λ image. image.items) images.now) (areas_of_length (version_for topology.now) (wanted_area topology.now area)) (D.state disk.old)) }
 {
     let area = wanted_area(topology, area);
     format(alloc, disk, topology, images, area)?;
@@ -50,14 +50,14 @@ pub fn format_on<D: Disk, O: Write, E: Write>(
 ) -> u8
     requires valid { is_topology topology.now ≡ true }
     ensures status { result ≤ 1 }
-    ensures formatted { D.keeps → result ≡ 0 → Formatted topology.now (map (λ image. image.items) images.now) (areas_of_length (version_for topology.now) (wanted_area topology.now area)) (D.state disk.old) (D.state disk.new) }
+    ensures formatted { result ≡ 0 → Formatted topology.now (map (λ image. image.items) images.now) (areas_of_length (version_for topology.now) (wanted_area topology.now area)) (D.state disk.old) (D.state disk.new) }
     ensures fits { result ≡ 0 → fits_device (D.size_of disk.old) topology.now (areas_of_length (version_for topology.now) (wanted_area topology.now area)) ≡ true }
     ensures printed { result ≡ 0 → Appends (O.contents out.old) (O.contents out.new) formatted_text }
     ensures refused { start_of topology.now (map (λ image. image.items) images.now) ≡ None → (result ≡ 1) × (disk.new ≡ disk.old) × (O.contents out.new ≡ O.contents out.old) }
     ensures small { fits_device (D.size_of disk.old) topology.now (areas_of_length (version_for topology.now) (wanted_area topology.now area)) ≡ false → (result ≡ 1) × (disk.new ≡ disk.old) × (O.contents out.new ≡ O.contents out.old) }
     ensures front { AppendsFront (O.contents out.old) (O.contents out.new) formatted_text }
-    ensures said { D.keeps → (O.contents out.new ≡ O.contents out.old) ⊎ Formatted topology.now (map (λ image. image.items) images.now) (areas_of_length (version_for topology.now) (wanted_area topology.now area)) (D.state disk.old) (D.state disk.new) }
-    ensures leaves { D.keeps → LeavesOnly (D.state disk.old) (D.state disk.new) (IsOldOrNew topology.now (map (λ image. image.items) images.now) (areas_of_length (version_for topology.now) (wanted_area topology.now area)) (D.state disk.old)) }
+    ensures said { (O.contents out.new ≡ O.contents out.old) ⊎ Formatted topology.now (map (λ image. image.items) images.now) (areas_of_length (version_for topology.now) (wanted_area topology.now area)) (D.state disk.old) (D.state disk.new) }
+    ensures leaves { LeavesOnly (D.state disk.old) (D.state disk.new) (IsOldOrNew topology.now (map (λ image. image.items) images.now) (areas_of_length (version_for topology.now) (wanted_area topology.now area)) (D.state disk.old)) }
 {
     match make(alloc, disk, topology, images, area, out) {
         Ok(()) => 0,

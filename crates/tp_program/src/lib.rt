@@ -18,6 +18,7 @@ mod formatting;
 mod in_use;
 mod locks;
 mod map_texts;
+mod media;
 mod opening_again;
 mod program;
 mod request_file;

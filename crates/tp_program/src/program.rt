@@ -54,8 +54,8 @@ fn carry_out<
     requires range { IsInRange asked.now }
     requires held { HoldsWritten asked.now (S.held devices.old) }
     ensures few { result ≤ 2 }
-    ensures used { UsedFor D.keeps N.keeps asked.now (S.uses devices.old) (S.uses devices.new) (O.contents out.old) (O.contents out.new) result }
-    ensures done { CarriedOut D.keeps history asked.now (S.calls devices.old) (S.calls devices.new) (O.contents out.old) (O.contents out.new) result }
+    ensures used { UsedFor asked.now (S.uses devices.old) (S.uses devices.new) (O.contents out.old) (O.contents out.new) result }
+    ensures done { CarriedOut history asked.now (S.calls devices.old) (S.calls devices.new) (O.contents out.old) (O.contents out.new) result }
 {
     match asked {
         Asked::Help(text) => print_help(text.as_str(), out, err),
@@ -215,8 +215,8 @@ fn answer_held<
     requires range { IsInRange asked.now }
     requires held { HoldsWritten asked.now (S.held devices.old) }
     ensures few { result ≤ 2 }
-    ensures used { UsedFor D.keeps N.keeps asked.now (S.uses devices.old) (S.uses devices.new) (O.contents out.old) (O.contents out.new) result }
-    ensures answered { AnsweredHeld D.keeps history asked.now (S.calls devices.old) (S.calls devices.new) (O.contents out.old) (O.contents out.new) result }
+    ensures used { UsedFor asked.now (S.uses devices.old) (S.uses devices.new) (O.contents out.old) (O.contents out.new) result }
+    ensures answered { AnsweredHeld history asked.now (S.calls devices.old) (S.calls devices.new) (O.contents out.old) (O.contents out.new) result }
 {
     if prints_into_device(rt, asked) {
         return refuse_output(err);
@@ -269,8 +269,8 @@ fn answer_asked<
     ghost history: { History }
     requires { IsInRange asked.now }
     ensures few { result ≤ 2 }
-    ensures used { UsedFor D.keeps N.keeps asked.now (S.uses devices.old) (S.uses devices.new) (O.contents out.old) (O.contents out.new) result }
-    ensures answered { AnsweredAs D.keeps history asked.now (S.calls devices.old) (S.calls devices.new) (O.contents out.old) (O.contents out.new) result }
+    ensures used { UsedFor asked.now (S.uses devices.old) (S.uses devices.new) (O.contents out.old) (O.contents out.new) result }
+    ensures answered { AnsweredAs history asked.now (S.calls devices.old) (S.calls devices.new) (O.contents out.old) (O.contents out.new) result }
 {
     match hold_written(devices, asked) {
         Ok(()) => answer_held(rt, devices, watch, asked, more, out, err),
@@ -304,8 +304,8 @@ fn answer_command<
     ghost history: { History }
     requires { IsCommandInRange command.now }
     ensures few { result ≤ most_status command.now }
-    ensures used { CommandUsed D.keeps N.keeps command.now (S.uses devices.old) (S.uses devices.new) (O.contents out.old) (O.contents out.new) result }
-    ensures done { CommandDone D.keeps history (feed.new ≡ feed.old) command.now (S.calls devices.old) (S.calls devices.new) (O.contents out.old) (O.contents out.new) result }
+    ensures used { CommandUsed command.now (S.uses devices.old) (S.uses devices.new) (O.contents out.old) (O.contents out.new) result }
+    ensures done { CommandDone history (feed.new ≡ feed.old) command.now (S.calls devices.old) (S.calls devices.new) (O.contents out.old) (O.contents out.new) result }
 {
     match command {
         Command::Stream(run) => {
@@ -349,7 +349,7 @@ pub fn answer_over<
     ghost history: { History }
     ensures few { result ≤ 3 }
     ensures three { result ≡ 3 → has_word (codes "--stream") words.now ≡ true }
-    ensures answered { Answered D.keeps N.keeps history (feed.new ≡ feed.old) words.now (S.calls devices.old) (S.calls devices.new) (S.uses devices.old) (S.uses devices.new) (O.contents out.old) (O.contents out.new) result }
+    ensures answered { Answered history (feed.new ≡ feed.old) words.now (S.calls devices.old) (S.calls devices.new) (S.uses devices.old) (S.uses devices.new) (O.contents out.old) (O.contents out.new) result }
 {
     match CommandLine::read(rt.alloc(), words) {
         Ok(line) => {

@@ -46,7 +46,7 @@ fn run_device<
     requires range { IsRun run.now }
     requires held { S.held devices.old ≡ Some (string_bytes run.now.device) }
     ensures few { result ≤ 2 }
-    ensures ran { RanWith D.keeps history run.now input.now (S.calls devices.old) (S.calls devices.new) (O.contents out.old) (O.contents out.new) result }
+    ensures ran { RanWith history run.now input.now (S.calls devices.old) (S.calls devices.new) (O.contents out.old) (O.contents out.new) result }
 {
     if !is_openable(rt, run.device.as_str()) {
         return refuse_special(devices, run.device.as_str(), system, err);
@@ -81,7 +81,7 @@ pub(crate) fn run_file<
     requires range { IsRun run.now }
     requires held { S.held devices.old ≡ Some (string_bytes run.now.device) }
     ensures few { result ≤ 2 }
-    ensures ran { RanFile D.keeps history run.now (S.calls devices.old) (S.calls devices.new) (O.contents out.old) (O.contents out.new) result }
+    ensures ran { RanFile history run.now (S.calls devices.old) (S.calls devices.new) (O.contents out.old) (O.contents out.new) result }
 {
     match read_input(rt, run) {
         Ok(input) => run_device(rt, devices, run, input.as_slice(), system, out, err),

@@ -1,7 +1,7 @@
 //! `tpnet run`, over any device.
 
 ghost use Rattle.std.specs.Prelude.{◌≡◌, ◌≤◌, ◌<◌, IsErr};
-ghost use Rattle.tp_program.specs.Lower.{verdict, MAX_STEPS, LeavesNothingNew, History, MAX_WORKERS, IsRun};
+ghost use Rattle.tp_program.specs.Lower.{AreTrue, verdict, MAX_STEPS, LeavesNothingNew, History, MAX_WORKERS, IsRun};
 ghost use Rattle.tp_program.specs.Running.{RanAs, job_of, status_of};
 
 use std::alloc::Global;
@@ -90,9 +90,9 @@ pub fn run_on<D: Disk + Drop + Send, O: Outlet, E: Write, R: Threads + Wait + Sy
     requires { IsRun asked.now }
     ensures status { result.1 ≤ 2 }
     ensures size { D.size_of result.0 ≡ D.size_of disk }
-    ensures ran { RanAs D.keeps history (job_of asked.now) input.now (D.state disk) (D.state result.0) (O.value out.old) (O.value out.new) result.1 }
-    ensures words { result.1 ≡ 2 → (D.keeps → LeavesNothingNew (D.state disk) (D.state result.0)) × (O.value out.new ≡ O.value out.old) }
-    ensures unopened { D.keeps → IsErr (verdict (D.state disk).now.bytes) → (result.1 ≡ 1) × LeavesNothingNew (D.state disk) (D.state result.0) × (O.value out.new ≡ O.value out.old) }
+    ensures ran { RanAs history (job_of asked.now) input.now (D.state disk) (D.state result.0) (D.reads result.0) (O.value out.old) (O.value out.new) result.1 }
+    ensures words { result.1 ≡ 2 → LeavesNothingNew (D.state disk) (D.state result.0) × (O.value out.new ≡ O.value out.old) }
+    ensures unopened { AreTrue (D.reads result.0) → IsErr (verdict (D.state disk).now.bytes) → (result.1 ≡ 1) × LeavesNothingNew (D.state disk) (D.state result.0) × (O.value out.new ≡ O.value out.old) }
 {
     let job = job_of(asked);
     let (disk, done, rest) = run(rt, alloc, job, disk, input, out);

@@ -101,7 +101,7 @@ fn stream_file<
     requires range { IsStreamRun asked.now }
     requires held { S.held devices.old ≡ Some (string_bytes asked.now.device) }
     ensures few { result.status ≤ 3 }
-    ensures streamed { StreamedFile D.keeps history asked.now (S.calls devices.old) (S.calls devices.new) (O.contents out.old) (O.contents out.new) result.status }
+    ensures streamed { StreamedFile history asked.now (S.calls devices.old) (S.calls devices.new) (O.contents out.old) (O.contents out.new) result.status }
 {
     if !is_openable(rt, asked.device.as_str()) {
         return unopened_special(devices, asked, err);
@@ -154,7 +154,7 @@ fn stream_and_explain<
     requires range { IsStreamRun asked.now }
     requires held { S.held devices.old ≡ Some (string_bytes asked.now.device) }
     ensures few { result ≤ 3 }
-    ensures streamed { StreamedFile D.keeps history asked.now (S.calls devices.old) (S.calls devices.new) (O.contents out.old) (O.contents out.new) result }
+    ensures streamed { StreamedFile history asked.now (S.calls devices.old) (S.calls devices.new) (O.contents out.old) (O.contents out.new) result }
 {
     let ended = stream_file(rt, devices, asked, feed, out, err, onlooker);
     if explains {
@@ -191,7 +191,7 @@ pub(crate) fn hold_and_stream<
     ghost history: { History }
     requires { IsStreamRun asked.now }
     ensures few { result ≤ 3 }
-    ensures streamed { StreamedHeld D.keeps history (feed.new ≡ feed.old) asked.now (S.calls devices.old) (S.calls devices.new) (O.contents out.old) (O.contents out.new) result }
+    ensures streamed { StreamedHeld history (feed.new ≡ feed.old) asked.now (S.calls devices.old) (S.calls devices.new) (O.contents out.old) (O.contents out.new) result }
 {
     match devices.hold(asked.device.as_str(), asked.wait_lock) {
         Ok(()) => stream_and_explain(rt, devices, asked, explains, feed, out, err, onlooker),

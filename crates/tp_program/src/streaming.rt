@@ -1,8 +1,8 @@
 //! `tpnet run --stream`, over any device.
 
-ghost use Rattle.std.specs.Prelude.{◌≡◌, ◌≤◌, Err, IfErr, IfOk, IsErr};
-ghost use Rattle.tp_program.specs.Lower.{Began, verdict, MAX_STEPS, LeavesNothingNew, Unopened, History, IsAsked, StaysUnstreamed, StreamLeft, IsStreamRun};
-ghost use Rattle.tp_program.specs.Streaming.{IsOfEnds, IsUnopened, FindsNothingNew, StreamedOn, end_status, ending_status, fault_status, seconds_of, shown_on, spread_over, stream_status, task_of};
+ghost use Rattle.std.specs.Prelude.{◌≡◌, ◌≤◌, Err, IfErr, IfOk, IsErr, OnOk, map, string_bytes};
+ghost use Rattle.tp_program.specs.Lower.{AreTrue, Began, verdict, MAX_STEPS, LeavesNothingNew, Unopened, History, HaveOwnPaths, IsAsked, StaysUnstreamed, StreamedInto, IsStreamRun, given_input, inputs_named, named_input, outputs_named, path_from};
+ghost use Rattle.tp_program.specs.Streaming.{IsOfEnds, IsUnopened, FindsNothingNew, OnOpened, StreamedOn, end_status, ending_status, fault_status, seconds_of, shown_on, spread_over, stream_status, task_of};
 
 use crate::request_file::RequestFile;
 use crate::stop_file::{StopFault, StopFile, first_fault, places_fault, report_stop};
@@ -15,8 +15,8 @@ use std::thread::Threads;
 use tp_disk::Disk;
 use tp_stream::{Ended, Ending, Sink, Source, StreamFault, Streams, Task, stream};
 use tp_stream_files::{
-    AnySink, AnySource, EndFault, Feed, Onlooker, OutsideFile, StandardStreams, Teller, open_ends,
-    say_end,
+    AnySink, AnySource, EndFault, Feed, Onlooker, Output, OutsideFile, StandardStreams, Teller,
+    open_ends, say_end,
 };
 use tp_words::StreamRun;
 
@@ -197,6 +197,18 @@ fn report<E: Write>(err: &mut E, done: Result<Ended, FilesFault>) -> u8
     }
 }
 
+/// Says how far a stream came that was done, and why it ended.
+fn say_done<S: Sink, E: Write>(
+    err: &mut E,
+    done: Result<Ended, StreamFault>,
+    standard_out: Option<u8>,
+    outputs: &[Output<S>],
+) {
+    if let Ok(ended) = done {
+        say_end(err, ended, standard_out, outputs);
+    }
+}
+
 /// Makes a stream over outputs and inputs that are open. It tells `err` where standard output and standard input begin, how far the stream has come,
 /// and at the end each node that has stopped. Then it tells `next M`, how much standard output was given and how much of that is confirmed, and why
 /// the stream ended.
@@ -220,10 +232,10 @@ fn stream_opened<
     ghost history: { History }
     requires { IsStreamRun asked.now }
     ensures size { D.size_of result.0 ≡ D.size_of disk }
-    ensures streamed { D.keeps → Began history.formatted history.before (D.state disk).now.bytes
-        → StreamLeft history.formatted result.1 (D.state disk) (D.state result.0) }
-    ensures unwritten { D.keeps → StaysUnstreamed result.1 → LeavesNothingNew (D.state disk) (D.state result.0) }
-    ensures unopened { D.keeps → IsErr (verdict (D.state disk).now.bytes) → (unopened : Unopened) × (result.1 ≡ Err (StreamFault.Opening unopened)) }
+    ensures streamed { AreTrue (D.reads result.0) → Began history.formatted history.before (D.state disk).now.bytes
+        → StreamedInto history.formatted (map (λ i. given_input i.port (I.input i.source)) streams.old.inputs.items) result.1 streams.old.outputs.items streams.new.outputs.items (D.state disk) (D.state result.0) }
+    ensures unwritten { StaysUnstreamed result.1 → LeavesNothingNew (D.state disk) (D.state result.0) }
+    ensures unopened { AreTrue (D.reads result.0) → IsErr (verdict (D.state disk).now.bytes) → (unopened : Unopened) × (result.1 ≡ Err (StreamFault.Opening unopened)) }
     ensures why { IfOk result.1 (λ ended. IsAsked (task_of asked.now) ended.why) }
 {
     let shown = shown_on(task_of(asked), onlooker.is_terminal());
@@ -242,9 +254,7 @@ fn stream_opened<
     let mut stop = StopFile::new(rt, request, &asked.stop_file);
     let (disk, done) = stream(rt, rt.alloc(), task, disk, streams, &mut teller, &mut stop);
     teller.end();
-    if let Ok(ended) = done {
-        say_end(err, ended, standard_out, &streams.outputs);
-    }
+    say_done(err, done, standard_out, &streams.outputs);
     (disk, done)
 }
 
@@ -264,7 +274,10 @@ fn open_ports<
     feed: &'a mut I,
     out: &'a mut O,
 ) -> Result<Streams<AnySink<'a, OutsideFile<F>, O>, AnySource<'a, OutsideFile<F>, I>>, FilesFault>
-    ensures { IfErr result IsOfEnds }
+    ensures fault { IfErr result IsOfEnds }
+    ensures outputs { IfOk result (λ streams. streams.outputs.items ≡ outputs_named asked.now.ends) }
+    ensures inputs { IfOk result (λ streams. map (λ i. named_input i.port (path_from (λ file. file.trace.told) i.source)) streams.inputs.items ≡ inputs_named asked.now.ends) }
+    ensures own { OnOk result (HaveOwnPaths (string_bytes asked.now.device) asked.now.ends.outs.items asked.now.ends.ins.items) }
 {
     if let Some(fault) = first_fault(rt, asked, request) {
         return Err(FilesFault::Stop(fault));
@@ -301,11 +314,12 @@ fn stream_files<
     ghost history: { History }
     requires { IsStreamRun asked.now }
     ensures size { D.size_of result.0 ≡ D.size_of disk }
-    ensures streamed { D.keeps → Began history.formatted history.before (D.state disk).now.bytes
-        → StreamedOn history.formatted result.1 (D.state disk) (D.state result.0) }
-    ensures unwritten { D.keeps → FindsNothingNew result.1 (D.state disk) (D.state result.0) }
-    ensures unopened { D.keeps → IsErr (verdict (D.state disk).now.bytes) → IsUnopened result.1 }
+    ensures streamed { AreTrue (D.reads result.0) → Began history.formatted history.before (D.state disk).now.bytes
+        → StreamedOn history.formatted asked.now.ends result.1 (D.state disk) (D.state result.0) }
+    ensures unwritten { FindsNothingNew result.1 (D.state disk) (D.state result.0) }
+    ensures unopened { AreTrue (D.reads result.0) → IsErr (verdict (D.state disk).now.bytes) → IsUnopened result.1 }
     ensures why { IfOk result.1 (λ ended. IsAsked (task_of asked.now) ended.why) }
+    ensures own { OnOpened result.1 (HaveOwnPaths (string_bytes asked.now.device) asked.now.ends.outs.items asked.now.ends.ins.items) }
 {
     let Ok(request) = RequestFile::of(rt.alloc(), asked.device.as_str()) else {
         return (disk, Err(FilesFault::End(EndFault::Memory)));
@@ -346,11 +360,12 @@ pub fn stream_on<
     ensures status { result.1.status ≡ stream_status result.1.done }
     ensures few { result.1.status ≤ 3 }
     ensures size { D.size_of result.0 ≡ D.size_of disk }
-    ensures streamed { D.keeps → Began history.formatted history.before (D.state disk).now.bytes
-        → StreamedOn history.formatted result.1.done (D.state disk) (D.state result.0) }
-    ensures unwritten { D.keeps → FindsNothingNew result.1.done (D.state disk) (D.state result.0) }
-    ensures unopened { D.keeps → IsErr (verdict (D.state disk).now.bytes) → IsUnopened result.1.done }
+    ensures streamed { AreTrue (D.reads result.0) → Began history.formatted history.before (D.state disk).now.bytes
+        → StreamedOn history.formatted asked.now.ends result.1.done (D.state disk) (D.state result.0) }
+    ensures unwritten { FindsNothingNew result.1.done (D.state disk) (D.state result.0) }
+    ensures unopened { AreTrue (D.reads result.0) → IsErr (verdict (D.state disk).now.bytes) → IsUnopened result.1.done }
     ensures why { IfOk result.1.done (λ ended. IsAsked (task_of asked.now) ended.why) }
+    ensures own { OnOpened result.1.done (HaveOwnPaths (string_bytes asked.now.device) asked.now.ends.outs.items asked.now.ends.ins.items) }
 {
     let (disk, done) = stream_files(rt, asked, disk, feed, out, err, onlooker);
     let status = report(err, done);

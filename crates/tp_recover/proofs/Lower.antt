@@ -1,6 +1,7 @@
 -- What proofs here name of the crates below.
 pub use Rattle.std.proofs.Math.Seq.{take-add}
 pub use Rattle.std.proofs.lemmas.Bool.{and_parts, cases_Bool, cases_eq, cond-false, eq-eqb, eqb-true, false≢true, le-leb, leb-false, leb-true, lt-leb, ltb-false, ltb-true, ne_eqb, true≢false}
+pub use Rattle.std.proofs.lemmas.Grind.{common_steps}
 pub use Rattle.std.proofs.lemmas.List.{at_drop_more, drop-drop, drop-take, drop_all, drop_more, length-map, length-take-le, length_push, map_push, take-append-drop, take-append-le, take-take, take_all, take_more}
 pub use Rattle.std.proofs.lemmas.List.Sums.{sum_by_more, sum_by_more_le}
 pub use Rattle.std.proofs.lemmas.Option.{none-some, slice_get-get_or, slice_get-map, slice_get_cases, slice_get_read}
@@ -118,6 +119,8 @@ pub use Rattle.tp_replay.specs.declared.fault.NotPossible.{NotPossible}
 pub use Rattle.tp_replay.specs.declared.fault.ReplayFault.{ReplayFault}
 pub use Rattle.tp_replay.specs.declared.fault.ReplayFault.TheVariants.{Damaged as Damages, Memory as WantsMemory}
 pub use Rattle.tp_disk.proofs.Calls.{and_then, call_leaves, started, weaker}
+pub use Rattle.tp_disk.proofs.Readings.{read_gave}
+pub use Rattle.tp_disk.specs.Reads.{AreTrue, WereTrue}
 pub use Rattle.tp_area.proofs.Heads.{head_of-cut_off, head_of-faulty, head_of-read, head_of-short}
 pub use Rattle.tp_area.proofs.Parts.{u16_at-take, u32_at-take, u64_at-drop, u64_at-take, u8_at-drop, u8_at-take}
 pub use Rattle.tp_area.proofs.Ports.{port_with-take}

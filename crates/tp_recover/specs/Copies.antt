@@ -77,8 +77,7 @@ CopyAnswer kept source old new (Some copied) = IsCopy kept source old.bytes new 
 CopyAnswer kept source old new None = (HasStayed kept source → ⊥) × (new.bytes ≡ closed_copy kept source old.bytes)
 
 -- A device was asked for the gate and the generation of the area that is copied, and the gate was open, with its generation. Right after that
--- question the device was in the state `left`. If that is its state now, no call of it came later: of a device that keeps the model each call
--- adds a past moment.
+-- question the device was in the state `left`. If that is its state now, no call of it came later, since each call adds a past moment.
 pub record AskedLast (kept : Kept) (left : State) (asked : AreaAsked) : Type 0 where
   pub start : asked.start ≡ kept_start kept
   pub front : asked.front ≡ record { is_open = true; generation = kept.generation }

@@ -58,6 +58,7 @@ pub use Rattle.tp_replay.specs.Flat.{IsFlat}
 pub use Rattle.tp_replay.specs.Rows.{ReplaysRow, ReplaysRows}
 pub use Rattle.tp_replay.specs.declared.fault.ReplayFault.{ReplayFault}
 pub use Rattle.tp_replay.specs.declared.fault.ReplayFault.TheVariants.{Damaged as Damages, Memory as WantsMemory}
+pub use Rattle.tp_disk.specs.Reads.{AreTrue, WereTrue}
 pub use Rattle.tp_area.specs.Appended.{append_refusal}
 pub use Rattle.tp_area.specs.Capacity.{left_behind}
 pub use Rattle.tp_area.specs.Fronts.{area_front, front_given}

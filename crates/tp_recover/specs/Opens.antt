@@ -17,9 +17,8 @@ opened_of o = record {
   end = o.end;
 }
 
--- What is true of whatever was opened, even on a device that doesn't keep the model. The cut is one of the head's topology, its nodes were
--- read from bytes, and its generation is one. Entries lead from it to what was replayed. The closed gate after them is inside the open
--- area, after its head.
+-- What is true of every opened device, whatever its reads gave. The cut is one of the head's topology, its nodes were read from bytes, and
+-- its generation is one. Entries lead from it to what was replayed. The closed gate after them is inside the open area, after its head.
 pub record IsWellOpened (o : Inside) : Type 0 where
   pub cut : IsCut t414_ends o.head.topology o.base o.cut.network
   pub nodes : AllByRecursion IsNodeOfBytes o.cut.network.nodes

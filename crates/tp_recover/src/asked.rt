@@ -1,7 +1,7 @@
 //! What a device answered about an area, and when it was asked.
 
 ghost use Rattle.std.specs.Prelude.{◌≡◌, ◌+◌, ◌≤◌, ◌↔◌, true, IfOk, IsTrue};
-ghost use Rattle.tp_recover.specs.Lower.{ftrue, State, area_front, AREA_FRONT_BYTES};
+ghost use Rattle.tp_recover.specs.Lower.{ftrue, AreTrue, State, WereTrue, area_front, AREA_FRONT_BYTES};
 ghost use Rattle.tp_recover.specs.Reading.{LeavesNothingNew};
 
 use crate::fault::CopyFault;
@@ -58,9 +58,10 @@ impl AreaAsked {
 pub(crate) fn ask_area<D: Disk>(source: &mut D, start: u64) -> Result<AreaAsked, CopyFault>
     requires { start + AREA_FRONT_BYTES ≤ D.size_of source.old }
     ensures source_size { D.size_of source.new ≡ D.size_of source.old }
-    ensures kept { D.keeps → IfOk result (λ asked. (D.state source.new).now ≡ (D.state source.old).now) }
-    ensures leaves { D.keeps → LeavesNothingNew (D.state source.old) (D.state source.new) }
-    ensures is { D.keeps → IfOk result (λ asked. asked.front ≡ area_front start (D.state source.old).now.bytes) }
+    ensures premise { WereTrue (D.reads source.old) (D.reads source.new) }
+    ensures kept { IfOk result (λ asked. (D.state source.new).now ≡ (D.state source.old).now) }
+    ensures leaves { LeavesNothingNew (D.state source.old) (D.state source.new) }
+    ensures is { AreTrue (D.reads source.new) → IfOk result (λ asked. asked.front ≡ area_front start (D.state source.old).now.bytes) }
     ensures start { IfOk result (λ asked. asked.start ≡ start) }
     ensures last { IfOk result (λ asked. asked.noted.state ≡ D.state source.new) }
 {

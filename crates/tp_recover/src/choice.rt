@@ -1,7 +1,7 @@
 //! Which area opening chooses.
 
 ghost use Rattle.std.specs.Prelude.{◌≡◌, ◌+◌, ◌*◌, ◌^◌, ◌<◌, ◌≤◌, length};
-ghost use Rattle.tp_recover.specs.Lower.{Counts, areas_end, choice, chosen_area, area_front};
+ghost use Rattle.tp_recover.specs.Lower.{AreTrue, WereTrue, Counts, areas_end, choice, chosen_area, area_front};
 ghost use Rattle.tp_recover.specs.Reading.{has_read, found, ReadAnswer, LeavesAlone, LeavesNothingNew, TakesNone};
 
 use crate::device::read_array;
@@ -15,9 +15,10 @@ fn read_area_front<D: Disk>(disk: &mut D, start: u64) -> Result<AreaFront, Unope
     requires { start + 9 ≤ D.size_of disk.old }
     ensures takes_none { TakesNone result }
     ensures counts { Counts (has_read result) (D.size_of disk.old) (D.size_of disk.new) (D.failures_of disk.old) (D.failures_of disk.new) }
-    ensures kept { D.keeps → LeavesAlone result (D.state disk.old).now (D.state disk.new).now }
-    ensures leaves { D.keeps → LeavesNothingNew (D.state disk.old) (D.state disk.new) }
-    ensures is { D.keeps → ReadAnswer (λ front. front) (found (area_front start (D.state disk.old).now.bytes)) result }
+    ensures premise { WereTrue (D.reads disk.old) (D.reads disk.new) }
+    ensures kept { LeavesAlone result (D.state disk.old).now (D.state disk.new).now }
+    ensures leaves { LeavesNothingNew (D.state disk.old) (D.state disk.new) }
+    ensures is { AreTrue (D.reads disk.new) → ReadAnswer (λ front. front) (found (area_front start (D.state disk.old).now.bytes)) result }
 {
     let bytes: [u8; AREA_FRONT_BYTES] = read_array(disk, start)?;
     Ok(area_front(&bytes))
@@ -44,9 +45,10 @@ pub fn read_choice<D: Disk>(disk: &mut D, areas: TwoAreas) -> Result<bool, Unope
     requires counted { areas.first + areas.length < 2 ^ 64 }
     ensures takes_none { TakesNone result }
     ensures counts { Counts (has_read result) (D.size_of disk.old) (D.size_of disk.new) (D.failures_of disk.old) (D.failures_of disk.new) }
-    ensures kept { D.keeps → LeavesAlone result (D.state disk.old).now (D.state disk.new).now }
-    ensures leaves { D.keeps → LeavesNothingNew (D.state disk.old) (D.state disk.new) }
-    ensures is { D.keeps → ReadAnswer (λ second. second) (chosen_area areas (D.state disk.old).now.bytes) result }
+    ensures premise { WereTrue (D.reads disk.old) (D.reads disk.new) }
+    ensures kept { LeavesAlone result (D.state disk.old).now (D.state disk.new).now }
+    ensures leaves { LeavesNothingNew (D.state disk.old) (D.state disk.new) }
+    ensures is { AreTrue (D.reads disk.new) → ReadAnswer (λ second. second) (chosen_area areas (D.state disk.old).now.bytes) result }
 {
     let first = read_area_front(disk, area_start(areas, false))?;
     let start = area_start(areas, true);

@@ -17,8 +17,8 @@
 //! so a checkpoint was written into the other one since. Then the gate and generation of the other one aren't found in the end as opening
 //! read them.
 
-ghost use Rattle.std.specs.Prelude.{◌≡◌, ◌+◌, ◌^◌, ◌≤◌, ◌<◌, ◌↔◌, IfOk, IfSome, IsSome, OnOk};
-ghost use Rattle.tp_recover.specs.Lower.{area_start, areas_end, AREA_HEAD_BYTES};
+ghost use Rattle.std.specs.Prelude.{◌≡◌, ◌+◌, ◌^◌, ◌≤◌, ◌<◌, ◌↔◌, IfOk, IfNone, IfSome, IsSome, OnOk};
+ghost use Rattle.tp_recover.specs.Lower.{AreTrue, WereTrue, area_start, areas_end, AREA_HEAD_BYTES};
 ghost use Rattle.tp_recover.specs.Copies.{AskedLast, CopyAnswer, HasStayed, IsFinished, OpensAs, closed_copy, area_kept};
 ghost use Rattle.tp_recover.specs.Reading.{LeavesNothingNew};
 
@@ -48,9 +48,10 @@ fn make_closed<D: Disk, K: Disk>(source: &mut D, copy: &mut K, kept: Kept) -> Re
     requires inside { kept.end < area_start kept.areas kept.second + kept.areas.length }
     ensures source_size { D.size_of source.new ≡ D.size_of source.old }
     ensures copy_size { K.size_of copy.new ≡ K.size_of copy.old }
-    ensures kept { D.keeps → OnOk result ((D.state source.new).now ≡ (D.state source.old).now) }
-    ensures leaves { D.keeps → LeavesNothingNew (D.state source.old) (D.state source.new) }
-    ensures bytes { D.keeps → K.keeps → OnOk result ((K.state copy.new).now.bytes ≡ closed_copy kept (D.state source.old).now.bytes (K.state copy.old).now.bytes) }
+    ensures premise { WereTrue (D.reads source.old) (D.reads source.new) }
+    ensures kept { OnOk result ((D.state source.new).now ≡ (D.state source.old).now) }
+    ensures leaves { LeavesNothingNew (D.state source.old) (D.state source.new) }
+    ensures bytes { AreTrue (D.reads source.new) → OnOk result ((K.state copy.new).now.bytes ≡ closed_copy kept (D.state source.old).now.bytes (K.state copy.old).now.bytes) }
 {
     let start = area_start(kept.areas, kept.second);
     put_bytes(copy, start, &[GATE_CLOSED])?;
@@ -66,9 +67,10 @@ fn has_stayed<D: Disk>(source: &mut D, kept: Kept) -> Result<Option<AreaAsked>, 
     requires counted { D.size_of source.old < 2 ^ 64 }
     requires some { AREA_HEAD_BYTES ≤ kept.areas.length }
     ensures source_size { D.size_of source.new ≡ D.size_of source.old }
-    ensures kept { D.keeps → IfOk result (λ stayed. (D.state source.new).now ≡ (D.state source.old).now) }
-    ensures leaves { D.keeps → LeavesNothingNew (D.state source.old) (D.state source.new) }
-    ensures is { D.keeps → IfOk result (λ stayed. IsSome stayed ↔ HasStayed kept (D.state source.old).now.bytes) }
+    ensures premise { WereTrue (D.reads source.old) (D.reads source.new) }
+    ensures kept { IfOk result (λ stayed. (D.state source.new).now ≡ (D.state source.old).now) }
+    ensures leaves { LeavesNothingNew (D.state source.old) (D.state source.new) }
+    ensures is { AreTrue (D.reads source.new) → IfOk result (λ stayed. IsSome stayed ↔ HasStayed kept (D.state source.old).now.bytes) }
     ensures asked { IfOk result (λ stayed. IfSome stayed (AskedLast kept (D.state source.new))) }
 {
     let asked = ask_area(source, area_start(kept.areas, kept.second))?;
@@ -82,7 +84,7 @@ fn has_stayed<D: Disk>(source: &mut D, kept: Kept) -> Result<Option<AreaAsked>, 
 /// Opens a copy, which has to say what opening the device said.
 #[inline(never)]
 fn opens_as<K: Disk>(alloc: Global, copy: &mut K, kept: Kept) -> Result<(), CopyFault>
-    ensures { K.keeps → OnOk result (OpensAs kept (K.state copy.old).now (K.state copy.new).now) }
+    ensures { AreTrue (K.reads copy.new) → OnOk result (OpensAs kept (K.state copy.old).now (K.state copy.new).now) }
 {
     match open(alloc, copy) {
         Ok(opened) if is_kept(kept_of(&opened), kept) => Ok(()),
@@ -96,7 +98,7 @@ fn finish<K: Disk>(alloc: Global, copy: &mut K, kept: Kept) -> Result<(), CopyFa
     requires into { areas_end kept.areas ≤ K.size_of copy.old }
     requires counted { areas_end kept.areas < 2 ^ 64 }
     requires some { AREA_HEAD_BYTES ≤ kept.areas.length }
-    ensures { K.keeps → OnOk result (IsFinished kept (K.state copy.old).now (K.state copy.new).now) }
+    ensures { AreTrue (K.reads copy.new) → OnOk result (IsFinished kept (K.state copy.old).now (K.state copy.new).now) }
 {
     put_bytes(copy, area_start(kept.areas, kept.second), &[GATE_OPEN])?;
     opens_as(alloc, copy, kept)
@@ -112,9 +114,11 @@ fn copy_kept<D: Disk, K: Disk>(
 ) -> Result<Option<Copied>, CopyFault>
     requires behind { area_start kept.areas kept.second + AREA_HEAD_BYTES ≤ kept.end }
     requires inside { kept.end < area_start kept.areas kept.second + kept.areas.length }
-    ensures kept { D.keeps → IfOk result (λ found. (D.state source.new).now ≡ (D.state source.old).now) }
-    ensures leaves { D.keeps → LeavesNothingNew (D.state source.old) (D.state source.new) }
-    ensures is { D.keeps → K.keeps → IfOk result (CopyAnswer kept (D.state source.old).now.bytes (K.state copy.old).now (K.state copy.new).now) }
+    ensures premise { WereTrue (D.reads source.old) (D.reads source.new) }
+    ensures kept { IfOk result (λ found. (D.state source.new).now ≡ (D.state source.old).now) }
+    ensures leaves { LeavesNothingNew (D.state source.old) (D.state source.new) }
+    ensures is { AreTrue (D.reads source.new) → AreTrue (K.reads copy.new) → IfOk result (CopyAnswer kept (D.state source.old).now.bytes (K.state copy.old).now (K.state copy.new).now) }
+    ensures stayed { AreTrue (D.reads source.new) → IfOk result (λ found. IfNone found (HasStayed kept (D.state source.old).now.bytes → ⊥)) }
     ensures asked { IfOk result (λ found. IfSome found (λ copied. AskedLast kept (D.state source.new) copied.asked)) }
 {
     if !lie_in(kept.areas, source.size()) {
@@ -149,9 +153,11 @@ pub fn copy_opened<D: Disk, K: Disk>(
     copy: &mut K,
     opened: Opened,
 ) -> Result<Option<Copied>, CopyFault>
-    ensures kept { D.keeps → IfOk result (λ found. (D.state source.new).now ≡ (D.state source.old).now) }
-    ensures leaves { D.keeps → LeavesNothingNew (D.state source.old) (D.state source.new) }
-    ensures is { D.keeps → K.keeps → IfOk result (CopyAnswer (area_kept opened) (D.state source.old).now.bytes (K.state copy.old).now (K.state copy.new).now) }
+    ensures premise { WereTrue (D.reads source.old) (D.reads source.new) }
+    ensures kept { IfOk result (λ found. (D.state source.new).now ≡ (D.state source.old).now) }
+    ensures leaves { LeavesNothingNew (D.state source.old) (D.state source.new) }
+    ensures is { AreTrue (D.reads source.new) → AreTrue (K.reads copy.new) → IfOk result (CopyAnswer (area_kept opened) (D.state source.old).now.bytes (K.state copy.old).now (K.state copy.new).now) }
+    ensures stayed { AreTrue (D.reads source.new) → IfOk result (λ found. IfNone found (HasStayed (area_kept opened) (D.state source.old).now.bytes → ⊥)) }
     ensures asked { IfOk result (λ found. IfSome found (λ copied. AskedLast (area_kept opened) (D.state source.new) copied.asked)) }
 {
     let kept = kept_of(&opened);

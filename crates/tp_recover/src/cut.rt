@@ -1,7 +1,7 @@
 //! The cut of an area.
 
 ghost use Rattle.std.specs.Prelude.{◌≡◌, ◌+◌, ◌*◌, ◌≤◌, ◌<◌, ◌^◌, ℕ, true, Ok, IfOk, map, length, sum_by};
-ghost use Rattle.tp_recover.specs.Lower.{AllByRecursion, IsNodeOfBytes, area_start, areas_end, content_of, Counts, flights_in, image_length, t414_ends, base_of, cut_in, are_lines, IsCut, line_count, NUMBER_LIMIT, port_made, tokens_on};
+ghost use Rattle.tp_recover.specs.Lower.{AreTrue, WereTrue, AllByRecursion, IsNodeOfBytes, area_start, areas_end, content_of, Counts, flights_in, image_length, t414_ends, base_of, cut_in, are_lines, IsCut, line_count, NUMBER_LIMIT, port_made, tokens_on};
 ghost use Rattle.tp_recover.specs.Cuts.{network_of_cut, records_at};
 ghost use Rattle.tp_recover.specs.Nodes.{live_node, AreAllThawed, HaveImages};
 ghost use Rattle.tp_recover.specs.Ports.{ArePorts};
@@ -72,15 +72,16 @@ fn read_records<D: Disk>(
     requires inside { places.ports + PORT_BYTES * ports ≤ D.size_of disk.old }
     requires counted { places.ports + PORT_BYTES * ports < 2 ^ 64 }
     ensures counts { Counts (has_read result) (D.size_of disk.old) (D.size_of disk.new) (D.failures_of disk.old) (D.failures_of disk.new) }
-    ensures kept { D.keeps → LeavesAlone result (D.state disk.old).now (D.state disk.new).now }
-    ensures leaves { D.keeps → LeavesNothingNew (D.state disk.old) (D.state disk.new) }
+    ensures premise { WereTrue (D.reads disk.old) (D.reads disk.new) }
+    ensures kept { LeavesAlone result (D.state disk.old).now (D.state disk.new).now }
+    ensures leaves { LeavesNothingNew (D.state disk.old) (D.state disk.new) }
     ensures nodes { IfOk result (λ cut. length cut.nodes.items ≡ length pages.now) }
     ensures ports { IfOk result (λ cut. length cut.ports.items ≡ ports) }
     ensures thawed { IfOk result (λ cut. AreAllThawed cut.nodes.items) }
     ensures images { IfOk result (λ cut. HaveImages pages.now (map live_node cut.nodes.items)) }
     ensures lines { IfOk result (λ cut. are_lines wires.now (map (λ line. line.items) cut.lines.items) ≡ true) }
     ensures reached { IfOk result (λ cut. ArePorts base (map port_made cut.ports.items)) }
-    ensures is { D.keeps → ReadAnswer (network_of_cut wires.now) (records_at pages.now wires.now ports base places (D.state disk.old).now.bytes) result }
+    ensures is { AreTrue (D.reads disk.new) → ReadAnswer (network_of_cut wires.now) (records_at pages.now wires.now ports base places (D.state disk.old).now.bytes) result }
 {
     let nodes = read_nodes(alloc, disk, places.nodes, pages)?;
     let found = read_lines(alloc, disk, places.lines, wires)?;
@@ -115,7 +116,7 @@ fn check_flights(wires: &[Option<WireEnd>], cut: &Cut, at: u64) -> Result<(), Op
 
 /// Reads the cut of an area, which has `base` entries.
 ///
-/// What is read was tested, so it is sound and thawed even if the device doesn't keep the model.
+/// What is read was tested, so it is sound and thawed whatever the device's reads gave.
 pub fn read_cut<D: Disk>(
     alloc: Global,
     disk: &mut D,
@@ -125,15 +126,16 @@ pub fn read_cut<D: Disk>(
 ) -> Result<Cut, Unopened>
     requires { areas_end head.now.areas ≤ D.size_of disk.old }
     ensures counts { Counts (has_read result) (D.size_of disk.old) (D.size_of disk.new) (D.failures_of disk.old) (D.failures_of disk.new) }
-    ensures kept { D.keeps → LeavesAlone result (D.state disk.old).now (D.state disk.new).now }
-    ensures leaves { D.keeps → LeavesNothingNew (D.state disk.old) (D.state disk.new) }
+    ensures premise { WereTrue (D.reads disk.old) (D.reads disk.new) }
+    ensures kept { LeavesAlone result (D.state disk.old).now (D.state disk.new).now }
+    ensures leaves { LeavesNothingNew (D.state disk.old) (D.state disk.new) }
     ensures nodes { IfOk result (λ cut. length cut.nodes.items ≡ length head.now.topology.pages) }
     ensures ports { IfOk result (λ cut. length cut.ports.items ≡ head.now.topology.ports) }
     ensures sound { IfOk result (λ cut. (at : ℕ) × (flights_in t414_ends (network_of_cut head.now.topology.wires cut) at 0 (line_count head.now.topology) ≡ Ok tt)) }
     ensures cut { base < NUMBER_LIMIT → IfOk result (λ cut. IsCut t414_ends head.now.topology base (network_of_cut head.now.topology.wires cut)) }
     ensures images { IfOk result (λ cut. AllByRecursion IsNodeOfBytes (map live_node cut.nodes.items)) }
     ensures thawed { IfOk result (λ cut. AreAllThawed cut.nodes.items) }
-    ensures is { D.keeps → base ≡ base_of (content_of head.now.areas second (D.state disk.old).now.bytes)
+    ensures is { AreTrue (D.reads disk.new) → base ≡ base_of (content_of head.now.areas second (D.state disk.old).now.bytes)
         → ReadAnswer (network_of_cut head.now.topology.wires) (cut_in t414_ends head.now.topology (area_start head.now.areas second + 1) (content_of head.now.areas second (D.state disk.old).now.bytes)) result }
 {
     let topology = head.topology();

@@ -1,7 +1,7 @@
 //! How a window is filled, and what is taken out of it.
 
 ghost use Rattle.std.specs.Prelude.{◌≡◌, ◌+◌, ◌^◌, ◌<◌, ◌≤◌, ℕ, List, IsTrue, IfOk, OnOk, is_ok, length, take, drop};
-ghost use Rattle.tp_model.specs.DiskHistory.{Counts};
+ghost use Rattle.tp_recover.specs.Lower.{Counts, AreTrue, WereTrue};
 ghost use Rattle.tp_recover.specs.Reading.{LeavesNothingNew};
 ghost use Rattle.tp_recover.specs.Windows.{HasBytes, IsOf};
 
@@ -19,9 +19,10 @@ fn read_front<D: Disk>(
     requires few { count ≤ length bytes.old }
     requires inside { at + count ≤ D.size_of disk.old }
     ensures counts { Counts (is_ok result) (D.size_of disk.old) (D.size_of disk.new) (D.failures_of disk.old) (D.failures_of disk.new) }
-    ensures kept { D.keeps → OnOk result ((D.state disk.new).now ≡ (D.state disk.old).now) }
-    ensures leaves { D.keeps → LeavesNothingNew (D.state disk.old) (D.state disk.new) }
-    ensures bytes { D.keeps → OnOk result (take count bytes.new ≡ take count (drop at (D.state disk.new).now.bytes)) }
+    ensures premise { WereTrue (D.reads disk.old) (D.reads disk.new) }
+    ensures kept { OnOk result ((D.state disk.new).now ≡ (D.state disk.old).now) }
+    ensures leaves { LeavesNothingNew (D.state disk.old) (D.state disk.new) }
+    ensures bytes { AreTrue (D.reads disk.new) → OnOk result (take count bytes.new ≡ take count (drop at (D.state disk.new).now.bytes)) }
 {
     disk.read(at, &mut bytes[..count])
 }
@@ -36,10 +37,11 @@ fn read_into<D: Disk>(
     requires few { count ≤ length bytes.old.items }
     requires inside { at + count ≤ D.size_of disk.old }
     ensures counts { Counts (is_ok result) (D.size_of disk.old) (D.size_of disk.new) (D.failures_of disk.old) (D.failures_of disk.new) }
-    ensures kept { D.keeps → OnOk result ((D.state disk.new).now ≡ (D.state disk.old).now) }
-    ensures leaves { D.keeps → LeavesNothingNew (D.state disk.old) (D.state disk.new) }
+    ensures premise { WereTrue (D.reads disk.old) (D.reads disk.new) }
+    ensures kept { OnOk result ((D.state disk.new).now ≡ (D.state disk.old).now) }
+    ensures leaves { LeavesNothingNew (D.state disk.old) (D.state disk.new) }
     ensures len { length bytes.new.items ≡ length bytes.old.items }
-    ensures bytes { D.keeps → OnOk result (take count bytes.new.items ≡ take count (drop at (D.state disk.new).now.bytes)) }
+    ensures bytes { AreTrue (D.reads disk.new) → OnOk result (take count bytes.new.items ≡ take count (drop at (D.state disk.new).now.bytes)) }
 {
     read_front(disk, at, bytes, count)
 }
@@ -79,13 +81,14 @@ impl Window {
         requires few { count ≤ WINDOW_BYTES }
         requires there { at + count ≤ end }
         requires inside { end ≤ D.size_of disk.old }
-        requires is { D.keeps → IsOf self.old (D.state disk.old).now.bytes }
+        requires is { AreTrue (D.reads disk.old) → IsOf self.old (D.state disk.old).now.bytes }
         ensures counts { Counts (is_ok result) (D.size_of disk.old) (D.size_of disk.new) (D.failures_of disk.old) (D.failures_of disk.new) }
-        ensures kept { D.keeps → OnOk result ((D.state disk.new).now ≡ (D.state disk.old).now) }
-        ensures leaves { D.keeps → LeavesNothingNew (D.state disk.old) (D.state disk.new) }
+        ensures premise { WereTrue (D.reads disk.old) (D.reads disk.new) }
+        ensures kept { OnOk result ((D.state disk.new).now ≡ (D.state disk.old).now) }
+        ensures leaves { LeavesNothingNew (D.state disk.old) (D.state disk.new) }
         ensures fits { self.new.count ≤ WINDOW_BYTES }
         ensures has { OnOk result (HasBytes self.new at count) }
-        ensures is { D.keeps → OnOk result (IsOf self.new (D.state disk.new).now.bytes) }
+        ensures is { AreTrue (D.reads disk.new) → OnOk result (IsOf self.new (D.state disk.new).now.bytes) }
     {
         if self.has(at, count) {
             return Ok(());

@@ -1,7 +1,7 @@
 //! The head of a device.
 
 ghost use Rattle.std.specs.Prelude.{◌≡◌, ◌+◌, ◌*◌, ◌≤◌, ◌<◌, ◌^◌, length, take, true, Ok, IfOk};
-ghost use Rattle.tp_recover.specs.Lower.{head_in, version_in, areas_end, head_length, head_of, Counts, Wide};
+ghost use Rattle.tp_recover.specs.Lower.{AreTrue, WereTrue, head_in, version_in, areas_end, head_length, head_of, Counts, Wide};
 ghost use Rattle.tp_recover.specs.Reading.{has_read, ReadAnswer, LeavesAlone, LeavesNothingNew, TakesNone};
 
 use crate::device::read_array;
@@ -31,10 +31,11 @@ fn read_wide<D: Disk>(disk: &mut D, len: u64) -> Result<Head, Unopened>
     requires some { NARROW_HEAD_BYTES ≤ len }
     ensures takes_none { TakesNone result }
     ensures counts { Counts (has_read result) (D.size_of disk.old) (D.size_of disk.new) (D.failures_of disk.old) (D.failures_of disk.new) }
-    ensures kept { D.keeps → LeavesAlone result (D.state disk.old).now (D.state disk.new).now }
-    ensures leaves { D.keeps → LeavesNothingNew (D.state disk.old) (D.state disk.new) }
+    ensures premise { WereTrue (D.reads disk.old) (D.reads disk.new) }
+    ensures kept { LeavesAlone result (D.state disk.old).now (D.state disk.new).now }
+    ensures leaves { LeavesNothingNew (D.state disk.old) (D.state disk.new) }
     ensures inside { IfOk result (λ head. areas_end head.areas ≤ len) }
-    ensures is { D.keeps → version_in (take NARROW_HEAD_BYTES (D.state disk.old).now.bytes) ≡ Ok Wide → ReadAnswer (λ head. head) (head_of (D.state disk.old).now.bytes) result }
+    ensures is { AreTrue (D.reads disk.new) → version_in (take NARROW_HEAD_BYTES (D.state disk.old).now.bytes) ≡ Ok Wide → ReadAnswer (λ head. head) (head_of (D.state disk.old).now.bytes) result }
 {
     if len < WIDE_HEAD_BYTES as u64 {
         return Err(Unopened::Fault(OpenFault::Damaged(0)));
@@ -48,11 +49,12 @@ fn read_wide<D: Disk>(disk: &mut D, len: u64) -> Result<Head, Unopened>
 pub fn read_head<D: Disk>(disk: &mut D) -> Result<Head, Unopened>
     ensures takes_none { TakesNone result }
     ensures counts { Counts (has_read result) (D.size_of disk.old) (D.size_of disk.new) (D.failures_of disk.old) (D.failures_of disk.new) }
-    ensures kept { D.keeps → LeavesAlone result (D.state disk.old).now (D.state disk.new).now }
-    ensures leaves { D.keeps → LeavesNothingNew (D.state disk.old) (D.state disk.new) }
+    ensures premise { WereTrue (D.reads disk.old) (D.reads disk.new) }
+    ensures kept { LeavesAlone result (D.state disk.old).now (D.state disk.new).now }
+    ensures leaves { LeavesNothingNew (D.state disk.old) (D.state disk.new) }
     ensures inside { IfOk result (λ head. areas_end head.areas ≤ D.size_of disk.old) }
     ensures counted { IfOk result (λ head. D.size_of disk.old < 2 ^ 64) }
-    ensures is { D.keeps → ReadAnswer (λ head. head) (head_of (D.state disk.old).now.bytes) result }
+    ensures is { AreTrue (D.reads disk.new) → ReadAnswer (λ head. head) (head_of (D.state disk.old).now.bytes) result }
 {
     let len = disk.size();
     if len < NARROW_HEAD_BYTES as u64 {

@@ -1,7 +1,7 @@
 //! The lines of a cut.
 
 ghost use Rattle.std.specs.Prelude.{◌≡◌, ◌*◌, ◌+◌, ◌<◌, ◌≤◌, ◌^◌, true, map, length, drop, IfOk};
-ghost use Rattle.tp_recover.specs.Lower.{Counts, lines_in, are_lines, OpenFault, tokens_on};
+ghost use Rattle.tp_recover.specs.Lower.{AreTrue, WereTrue, Counts, lines_in, are_lines, OpenFault, tokens_on};
 ghost use Rattle.tp_recover.specs.declared.unopened.Unopened.{Unopened};
 ghost use Rattle.tp_recover.specs.Reading.{has_read, ReadAnswer, LeavesAlone, LeavesNothingNew};
 
@@ -61,10 +61,11 @@ pub(crate) fn read_lines<D: Disk>(
     requires inside { at + LINE_BYTES * length wires.now ≤ D.size_of disk.old }
     requires counted { at + LINE_BYTES * length wires.now < 2 ^ 64 }
     ensures counts { Counts (has_read result) (D.size_of disk.old) (D.size_of disk.new) (D.failures_of disk.old) (D.failures_of disk.new) }
-    ensures kept { D.keeps → LeavesAlone result (D.state disk.old).now (D.state disk.new).now }
-    ensures leaves { D.keeps → LeavesNothingNew (D.state disk.old) (D.state disk.new) }
+    ensures premise { WereTrue (D.reads disk.old) (D.reads disk.new) }
+    ensures kept { LeavesAlone result (D.state disk.old).now (D.state disk.new).now }
+    ensures leaves { LeavesNothingNew (D.state disk.old) (D.state disk.new) }
     ensures lines { IfOk result (λ lines. are_lines wires.now (map tokens_on lines.items) ≡ true) }
-    ensures is { D.keeps → ReadAnswer (λ lines. map tokens_on lines.items) (lines_in at wires.now (drop at (D.state disk.old).now.bytes)) result }
+    ensures is { AreTrue (D.reads disk.new) → ReadAnswer (λ lines. map tokens_on lines.items) (lines_in at wires.now (drop at (D.state disk.old).now.bytes)) result }
 {
     let bytes = read_bytes(alloc, disk, at, LINE_BYTES * wires.len())?;
     lines_in(alloc, at, wires, &bytes)

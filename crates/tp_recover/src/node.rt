@@ -1,7 +1,7 @@
 //! The nodes of a cut.
 
 ghost use Rattle.std.specs.Prelude.{◌≡◌, ◌+◌, ◌*◌, ◌≤◌, ◌<◌, ◌^◌, ◌++◌, ℕ, None, true, IfOk, map, length, drop, get_or, sum_by};
-ghost use Rattle.tp_recover.specs.Lower.{node_with, nodes_in, or_damaged, Counts, image_length};
+ghost use Rattle.tp_recover.specs.Lower.{AreTrue, WereTrue, node_with, nodes_in, or_damaged, Counts, image_length};
 ghost use Rattle.tp_recover.specs.Nodes.{live_node, AreAllThawed, HasImage, HaveImages};
 ghost use Rattle.tp_recover.specs.Reading.{has_read, ReadAnswer, LeavesAlone, LeavesNothingNew};
 
@@ -42,11 +42,12 @@ fn read_node<D: Disk>(alloc: Global, disk: &mut D, at: u64, pages: u16) -> Resul
     requires inside { at + image_length pages ≤ D.size_of disk.old }
     requires counted { at + image_length pages < 2 ^ 64 }
     ensures counts { Counts (has_read result) (D.size_of disk.old) (D.size_of disk.new) (D.failures_of disk.old) (D.failures_of disk.new) }
-    ensures kept { D.keeps → LeavesAlone result (D.state disk.old).now (D.state disk.new).now }
-    ensures leaves { D.keeps → LeavesNothingNew (D.state disk.old) (D.state disk.new) }
+    ensures premise { WereTrue (D.reads disk.old) (D.reads disk.new) }
+    ensures kept { LeavesAlone result (D.state disk.old).now (D.state disk.new).now }
+    ensures leaves { LeavesNothingNew (D.state disk.old) (D.state disk.new) }
     ensures thawed { IfOk result (λ node. node.frozen ≡ None) }
     ensures image { IfOk result (λ node. HasImage pages node.live) }
-    ensures is { D.keeps → ReadAnswer live_node (or_damaged at (node_with pages (drop at (D.state disk.old).now.bytes))) result }
+    ensures is { AreTrue (D.reads disk.new) → ReadAnswer live_node (or_damaged at (node_with pages (drop at (D.state disk.old).now.bytes))) result }
 {
     let head: [u8; IMAGE_HEAD_BYTES] = read_array(disk, at)?;
     let place = at + IMAGE_HEAD_BYTES as u64;
@@ -64,12 +65,13 @@ pub(crate) fn read_nodes<D: Disk>(
     requires inside { at + sum_by image_length pages.now ≤ D.size_of disk.old }
     requires counted { at + sum_by image_length pages.now < 2 ^ 64 }
     ensures counts { Counts (has_read result) (D.size_of disk.old) (D.size_of disk.new) (D.failures_of disk.old) (D.failures_of disk.new) }
-    ensures kept { D.keeps → LeavesAlone result (D.state disk.old).now (D.state disk.new).now }
-    ensures leaves { D.keeps → LeavesNothingNew (D.state disk.old) (D.state disk.new) }
+    ensures premise { WereTrue (D.reads disk.old) (D.reads disk.new) }
+    ensures kept { LeavesAlone result (D.state disk.old).now (D.state disk.new).now }
+    ensures leaves { LeavesNothingNew (D.state disk.old) (D.state disk.new) }
     ensures len { IfOk result (λ nodes. length nodes.items ≡ length pages.now) }
     ensures thawed { IfOk result (λ nodes. AreAllThawed nodes.items) }
     ensures images { IfOk result (λ nodes. HaveImages pages.now (map live_node nodes.items)) }
-    ensures is { D.keeps → ReadAnswer (λ nodes. map live_node nodes.items) (nodes_in at pages.now (drop at (D.state disk.old).now.bytes)) result }
+    ensures is { AreTrue (D.reads disk.new) → ReadAnswer (λ nodes. map live_node nodes.items) (nodes_in at pages.now (drop at (D.state disk.old).now.bytes)) result }
 {
     let mut nodes = Vec::new(alloc);
     let mut place = at;

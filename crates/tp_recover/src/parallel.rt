@@ -1,7 +1,7 @@
 //! Opening a device, each node by itself.
 
 ghost use Rattle.std.specs.Prelude.{◌≡◌, ◌^◌, ◌<◌, ◌≤◌, IfOk};
-ghost use Rattle.tp_recover.specs.Lower.{areas_end, content_of, Sync, done, Counts, t414, t414_ends, area_in, verdict};
+ghost use Rattle.tp_recover.specs.Lower.{AreTrue, WereTrue, areas_end, content_of, Sync, done, Counts, t414, t414_ends, area_in, verdict};
 ghost use Rattle.tp_recover.specs.Reading.{has_read, ReadAnswer, LeavesAlone, LeavesNothingNew};
 
 use crate::opening::{Opened, read_chosen};
@@ -28,10 +28,11 @@ fn open_apart<D: Disk, R: Threads + Sync, G: Gate + Sync>(
     requires some { 0 < workers }
     requires inside { areas_end head.areas ≤ D.size_of disk.old }
     ensures counts { Counts (has_read result) (D.size_of disk.old) (D.size_of disk.new) (D.failures_of disk.old) (D.failures_of disk.new) }
-    ensures kept { D.keeps → LeavesAlone result (D.state disk.old).now (D.state disk.new).now }
-    ensures leaves { D.keeps → LeavesNothingNew (D.state disk.old) (D.state disk.new) }
+    ensures premise { WereTrue (D.reads disk.old) (D.reads disk.new) }
+    ensures kept { LeavesAlone result (D.state disk.old).now (D.state disk.new).now }
+    ensures leaves { LeavesNothingNew (D.state disk.old) (D.state disk.new) }
     ensures head { IfOk result (λ opened. opened.head ≡ head) }
-    ensures is { D.keeps → ReadAnswer (λ opened. opened) (area_in t414 t414_ends head second (content_of head.areas second (D.state disk.old).now.bytes)) result }
+    ensures is { AreTrue (D.reads disk.new) → ReadAnswer (λ opened. opened) (area_in t414 t414_ends head second (content_of head.areas second (D.state disk.old).now.bytes)) result }
 {
     let Taken { start, rows, end } = read_taken(alloc, disk, &head, second)?;
     let Start { front, cut, replay } = start;
@@ -64,11 +65,12 @@ pub fn open_parallel<D: Disk, R: Threads + Sync, G: Gate + Sync>(
 ) -> Result<Opened, Unopened>
     requires { (1 ≤ workers) × (workers ≤ 64) }
     ensures counts { Counts (has_read result) (D.size_of disk.old) (D.size_of disk.new) (D.failures_of disk.old) (D.failures_of disk.new) }
-    ensures kept { D.keeps → LeavesAlone result (done Sync (D.state disk.old).now) (D.state disk.new).now }
-    ensures leaves { D.keeps → LeavesNothingNew (D.state disk.old) (D.state disk.new) }
+    ensures premise { WereTrue (D.reads disk.old) (D.reads disk.new) }
+    ensures kept { LeavesAlone result (done Sync (D.state disk.old).now) (D.state disk.new).now }
+    ensures leaves { LeavesNothingNew (D.state disk.old) (D.state disk.new) }
     ensures whole { IfOk result (λ opened. areas_end opened.head.areas ≤ D.size_of disk.old) }
     ensures counted { IfOk result (λ opened. D.size_of disk.old < 2 ^ 64) }
-    ensures is { D.keeps → ReadAnswer (λ opened. opened) (verdict (D.state disk.old).now.bytes) result }
+    ensures is { AreTrue (D.reads disk.new) → ReadAnswer (λ opened. opened) (verdict (D.state disk.old).now.bytes) result }
 {
     let (head, second) = read_chosen(disk)?;
     open_apart(alloc, disk, head, second, workers, gate, rt)

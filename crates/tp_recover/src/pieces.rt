@@ -1,7 +1,7 @@
 //! Bytes that go from one device to another one, each to its place.
 
 ghost use Rattle.std.specs.Prelude.{◌≡◌, ◌+◌, ◌^◌, ◌≤◌, ◌<◌, length, OnOk};
-ghost use Rattle.tp_model.specs.Disk.{written};
+ghost use Rattle.tp_recover.specs.Lower.{written, AreTrue, WereTrue};
 ghost use Rattle.tp_recover.specs.Copies.{with_range};
 ghost use Rattle.tp_recover.specs.Reading.{LeavesNothingNew};
 
@@ -16,7 +16,7 @@ const PIECE_BYTES: usize = 4 * PAGE_BYTES;
 pub(crate) fn put_bytes<K: Disk>(copy: &mut K, at: u64, bytes: &[u8]) -> Result<(), CopyFault>
     requires { at + length bytes.now ≤ K.size_of copy.old }
     ensures size { K.size_of copy.new ≡ K.size_of copy.old }
-    ensures bytes { K.keeps → OnOk result ((K.state copy.new).now.bytes ≡ written (K.state copy.old).now.bytes at bytes.now) }
+    ensures bytes { OnOk result ((K.state copy.new).now.bytes ≡ written (K.state copy.old).now.bytes at bytes.now) }
 {
     match copy.write_at(at, bytes) {
         Ok(()) => Ok(()),
@@ -35,9 +35,10 @@ fn copy_piece<D: Disk, K: Disk>(
     requires into { at + length piece.old ≤ K.size_of copy.old }
     ensures source_size { D.size_of source.new ≡ D.size_of source.old }
     ensures copy_size { K.size_of copy.new ≡ K.size_of copy.old }
-    ensures kept { D.keeps → OnOk result ((D.state source.new).now ≡ (D.state source.old).now) }
-    ensures leaves { D.keeps → LeavesNothingNew (D.state source.old) (D.state source.new) }
-    ensures bytes { D.keeps → K.keeps → OnOk result ((K.state copy.new).now.bytes ≡ with_range at (length piece.old) (D.state source.old).now.bytes (K.state copy.old).now.bytes) }
+    ensures premise { WereTrue (D.reads source.old) (D.reads source.new) }
+    ensures kept { OnOk result ((D.state source.new).now ≡ (D.state source.old).now) }
+    ensures leaves { LeavesNothingNew (D.state source.old) (D.state source.new) }
+    ensures bytes { AreTrue (D.reads source.new) → OnOk result ((K.state copy.new).now.bytes ≡ with_range at (length piece.old) (D.state source.old).now.bytes (K.state copy.old).now.bytes) }
 {
     match source.read(at, piece) {
         Ok(()) => put_bytes(copy, at, piece),
@@ -58,9 +59,10 @@ pub(crate) fn copy_range<D: Disk, K: Disk>(
     requires counted { at + count < 2 ^ 64 }
     ensures source_size { D.size_of source.new ≡ D.size_of source.old }
     ensures copy_size { K.size_of copy.new ≡ K.size_of copy.old }
-    ensures kept { D.keeps → OnOk result ((D.state source.new).now ≡ (D.state source.old).now) }
-    ensures leaves { D.keeps → LeavesNothingNew (D.state source.old) (D.state source.new) }
-    ensures bytes { D.keeps → K.keeps → OnOk result ((K.state copy.new).now.bytes ≡ with_range at count (D.state source.old).now.bytes (K.state copy.old).now.bytes) }
+    ensures premise { WereTrue (D.reads source.old) (D.reads source.new) }
+    ensures kept { OnOk result ((D.state source.new).now ≡ (D.state source.old).now) }
+    ensures leaves { LeavesNothingNew (D.state source.old) (D.state source.new) }
+    ensures bytes { AreTrue (D.reads source.new) → OnOk result ((K.state copy.new).now.bytes ≡ with_range at count (D.state source.old).now.bytes (K.state copy.old).now.bytes) }
 {
     let mut piece = [0; PIECE_BYTES];
     let mut done = 0;

@@ -1,7 +1,7 @@
 //! The ports of a cut.
 
 ghost use Rattle.std.specs.Prelude.{◌≡◌, true, ◌*◌, ◌+◌, ◌≤◌, ◌<◌, ◌^◌, IfOk, map, length, drop};
-ghost use Rattle.tp_recover.specs.Lower.{port_made, record_of, is_port_of, or_damaged, port_with, ports_in, Counts};
+ghost use Rattle.tp_recover.specs.Lower.{AreTrue, WereTrue, port_made, record_of, is_port_of, or_damaged, port_with, ports_in, Counts};
 ghost use Rattle.tp_recover.specs.Ports.{ArePorts};
 ghost use Rattle.tp_recover.specs.Reading.{has_read, ReadAnswer, LeavesAlone, LeavesNothingNew};
 
@@ -44,10 +44,11 @@ fn read_port<D: Disk>(
 ) -> Result<PortParts, Unopened>
     requires { at + PORT_BYTES ≤ D.size_of disk.old }
     ensures counts { Counts (has_read result) (D.size_of disk.old) (D.size_of disk.new) (D.failures_of disk.old) (D.failures_of disk.new) }
-    ensures kept { D.keeps → LeavesAlone result (D.state disk.old).now (D.state disk.new).now }
-    ensures leaves { D.keeps → LeavesNothingNew (D.state disk.old) (D.state disk.new) }
+    ensures premise { WereTrue (D.reads disk.old) (D.reads disk.new) }
+    ensures kept { LeavesAlone result (D.state disk.old).now (D.state disk.new).now }
+    ensures leaves { LeavesNothingNew (D.state disk.old) (D.state disk.new) }
     ensures port { IfOk result (λ port. is_port_of base (port_made port) ≡ true) }
-    ensures is { D.keeps → ReadAnswer port_made (or_damaged at (port_with base (drop at (D.state disk.old).now.bytes))) result }
+    ensures is { AreTrue (D.reads disk.new) → ReadAnswer port_made (or_damaged at (port_with base (drop at (D.state disk.old).now.bytes))) result }
 {
     let bytes = read_bytes(alloc, disk, at, PORT_BYTES)?;
     let Some(port) = port_in(base, &bytes) else {
@@ -70,11 +71,12 @@ pub(crate) fn read_ports<D: Disk>(
     requires inside { at + PORT_BYTES * count ≤ D.size_of disk.old }
     requires counted { at + PORT_BYTES * count < 2 ^ 64 }
     ensures counts { Counts (has_read result) (D.size_of disk.old) (D.size_of disk.new) (D.failures_of disk.old) (D.failures_of disk.new) }
-    ensures kept { D.keeps → LeavesAlone result (D.state disk.old).now (D.state disk.new).now }
-    ensures leaves { D.keeps → LeavesNothingNew (D.state disk.old) (D.state disk.new) }
+    ensures premise { WereTrue (D.reads disk.old) (D.reads disk.new) }
+    ensures kept { LeavesAlone result (D.state disk.old).now (D.state disk.new).now }
+    ensures leaves { LeavesNothingNew (D.state disk.old) (D.state disk.new) }
     ensures len { IfOk result (λ ports. length ports.items ≡ count) }
     ensures ports { IfOk result (λ ports. ArePorts base (map port_made ports.items)) }
-    ensures is { D.keeps → ReadAnswer (λ ports. map port_made ports.items) (ports_in base at count (drop at (D.state disk.old).now.bytes)) result }
+    ensures is { AreTrue (D.reads disk.new) → ReadAnswer (λ ports. map port_made ports.items) (ports_in base at count (drop at (D.state disk.old).now.bytes)) result }
 {
     let mut ports = Vec::new(alloc);
     for port in 0..count {

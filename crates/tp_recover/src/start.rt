@@ -1,7 +1,7 @@
 //! The network of a cut, before the entries after it are replayed.
 
 ghost use Rattle.std.specs.Prelude.{◌≡◌, ◌+◌, ◌*◌, ◌≤◌, All, IfOk, vec_len};
-ghost use Rattle.tp_recover.specs.Lower.{port_made, areas_end, content_of, Counts, MAX_HELD, LINE_TOKENS, IsFlat};
+ghost use Rattle.tp_recover.specs.Lower.{AreTrue, WereTrue, port_made, areas_end, content_of, Counts, MAX_HELD, LINE_TOKENS, IsFlat};
 ghost use Rattle.tp_recover.specs.Cuts.{network_of_cut};
 ghost use Rattle.tp_recover.specs.Nodes.{AreAllThawed};
 ghost use Rattle.tp_recover.specs.Reading.{has_read, ReadAnswer, LeavesAlone, LeavesNothingNew};
@@ -60,10 +60,11 @@ pub(crate) fn read_start<D: Disk>(
 ) -> Result<Start, Unopened>
     requires { areas_end head.now.areas ≤ D.size_of disk.old }
     ensures counts { Counts (has_read result) (D.size_of disk.old) (D.size_of disk.new) (D.failures_of disk.old) (D.failures_of disk.new) }
-    ensures kept { D.keeps → LeavesAlone result (D.state disk.old).now (D.state disk.new).now }
-    ensures leaves { D.keeps → LeavesNothingNew (D.state disk.old) (D.state disk.new) }
+    ensures premise { WereTrue (D.reads disk.old) (D.reads disk.new) }
+    ensures kept { LeavesAlone result (D.state disk.old).now (D.state disk.new).now }
+    ensures leaves { LeavesNothingNew (D.state disk.old) (D.state disk.new) }
     ensures start { IfOk result (IsStart head.now) }
-    ensures is { D.keeps → ReadAnswer read_of (read_in head.now second (content_of head.now.areas second (D.state disk.old).now.bytes)) result }
+    ensures is { AreTrue (D.reads disk.new) → ReadAnswer read_of (read_in head.now second (content_of head.now.areas second (D.state disk.old).now.bytes)) result }
 {
     let front = read_front(disk, head, second)?;
     let cut = read_cut(alloc, disk, head, second, front.base)?;

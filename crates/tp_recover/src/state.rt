@@ -19,7 +19,7 @@ impl Opened {
     /// Makes the state that a book is opened from. The network becomes parts, with each node's image made as the node goes, and the entries
     /// are moved. `AllocError` if memory is out.
     ///
-    /// A book can be opened from it whatever the device was, even if it doesn't keep the model.
+    /// A book can be opened from it whatever the device's reads gave.
     #[inline(never)]
     pub fn into_state(self, alloc: Global) -> Result<NetState, AllocError>
         ensures opened { IfOk result (λ state. IsWellOpen state) }

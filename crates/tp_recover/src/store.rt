@@ -1,7 +1,7 @@
 //! The store over a device that opened.
 
 ghost use Rattle.std.specs.Prelude.{◌≡◌, ◌+◌, ◌*◌, ◌^◌, ◌<◌, ◌≤◌, true, false, Ok, Err, IfOk};
-ghost use Rattle.tp_recover.specs.Lower.{place_at, area_start, areas_end, Sync, done, Counts, verdict, AREA_HEAD_BYTES};
+ghost use Rattle.tp_recover.specs.Lower.{AreTrue, WereTrue, place_at, area_start, areas_end, Sync, done, Counts, verdict, AREA_HEAD_BYTES};
 ghost use Rattle.tp_recover.specs.Reading.{ReadAnswer, LeavesNothingNew};
 ghost use Rattle.tp_recover.specs.declared.unopened.Unopened.TheVariants.{ReadFailed};
 
@@ -32,7 +32,7 @@ impl Opened {
     pub fn store<D: Disk>(&self, disk: D) -> Store<D>
         requires whole { areas_end self.now.head.areas ≤ D.size_of disk }
         requires counted { D.size_of disk < 2 ^ 64 }
-        requires read { D.keeps → verdict (D.state disk).now.bytes ≡ Ok self.now }
+        requires read { AreTrue (D.reads disk) → verdict (D.state disk).now.bytes ≡ Ok self.now }
         ensures disk { result.disk ≡ disk }
         ensures place { result.place ≡ place_at self.now }
         ensures unbroken { result.broken ≡ false }
@@ -52,9 +52,10 @@ pub fn open_store<D: Disk + Drop>(
 ) -> Result<(Opened, Store<D>), Unopened>
     ensures counts { IfOk result (λ both. Counts true (D.size_of disk) (D.size_of both.1.disk) (D.failures_of disk) (D.failures_of both.1.disk)) }
     ensures failed { result ≡ Err ReadFailed → (after : D) × Counts false (D.size_of disk) (D.size_of after) (D.failures_of disk) (D.failures_of after) }
-    ensures kept { D.keeps → IfOk result (λ both. (D.state both.1.disk).now ≡ done Sync (D.state disk).now) }
-    ensures leaves { D.keeps → IfOk result (λ both. LeavesNothingNew (D.state disk) (D.state both.1.disk)) }
-    ensures is { D.keeps → ReadAnswer (λ both. both.0) (verdict (D.state disk).now.bytes) result }
+    ensures premise { IfOk result (λ both. WereTrue (D.reads disk) (D.reads both.1.disk)) }
+    ensures kept { IfOk result (λ both. (D.state both.1.disk).now ≡ done Sync (D.state disk).now) }
+    ensures leaves { IfOk result (λ both. LeavesNothingNew (D.state disk) (D.state both.1.disk)) }
+    ensures is { (after : D) × IfOk result (λ both. both.1.disk ≡ after) × (AreTrue (D.reads after) → ReadAnswer (λ both. both.0) (verdict (D.state disk).now.bytes) result) }
     ensures place { IfOk result (λ both. both.1.place ≡ place_at both.0) }
     ensures unbroken { IfOk result (λ both. both.1.broken ≡ false) }
 {

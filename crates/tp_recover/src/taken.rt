@@ -1,7 +1,7 @@
 //! An area, read whole before its entries are replayed.
 
 ghost use Rattle.std.specs.Prelude.{◌≤◌, IfOk};
-ghost use Rattle.tp_recover.specs.Lower.{areas_end, content_of, Counts};
+ghost use Rattle.tp_recover.specs.Lower.{AreTrue, WereTrue, areas_end, content_of, Counts};
 ghost use Rattle.tp_recover.specs.Reading.{has_read, ReadAnswer, LeavesAlone, LeavesNothingNew};
 ghost use Rattle.tp_recover.specs.Taken.{taken_area, taken_of, IsTaken};
 
@@ -32,10 +32,11 @@ pub(crate) fn read_taken<D: Disk>(
 ) -> Result<Taken, Unopened>
     requires { areas_end head.now.areas ≤ D.size_of disk.old }
     ensures counts { Counts (has_read result) (D.size_of disk.old) (D.size_of disk.new) (D.failures_of disk.old) (D.failures_of disk.new) }
-    ensures kept { D.keeps → LeavesAlone result (D.state disk.old).now (D.state disk.new).now }
-    ensures leaves { D.keeps → LeavesNothingNew (D.state disk.old) (D.state disk.new) }
+    ensures premise { WereTrue (D.reads disk.old) (D.reads disk.new) }
+    ensures kept { LeavesAlone result (D.state disk.old).now (D.state disk.new).now }
+    ensures leaves { LeavesNothingNew (D.state disk.old) (D.state disk.new) }
     ensures taken { IfOk result (IsTaken head.now second) }
-    ensures is { D.keeps → ReadAnswer taken_of (taken_area head.now second (content_of head.now.areas second (D.state disk.old).now.bytes)) result }
+    ensures is { AreTrue (D.reads disk.new) → ReadAnswer taken_of (taken_area head.now second (content_of head.now.areas second (D.state disk.old).now.bytes)) result }
 {
     let start = read_start(alloc, disk, head, second)?;
     let (rows, end) = read_rows(

@@ -1,4 +1,5 @@
 pub mod Lower
+mod Premise
 pub mod Gathered
 pub mod Answered
 pub mod Failures

@@ -41,6 +41,7 @@ pub use Rattle.tp_book.specs.Opened.{now_of, opened_book}
 pub use Rattle.tp_book.specs.Refusals.{is_journal_full}
 pub use Rattle.tp_book.specs.declared.state.NetState.{NetState}
 pub use Rattle.tp_disk.proofs.Calls.{and_then, started, weaker}
+pub use Rattle.tp_disk.specs.Reads.{AreTrue, WereTrue}
 pub use Rattle.tp_area.specs.declared.place.Place.{Place}
 pub use Rattle.tp_recover.specs.Reading.{LeavesNothingNew, has_read}
 pub use Rattle.tp_recover.specs.declared.unopened.Unopened.{Unopened}

@@ -1,7 +1,7 @@
 -- What is printed: outputs of a port in a book, and in the network to which the flusher's journal leads.
 use Rattle.std.proofs.Common.{◌≡◌, ℕ, ◌+◌, ◌-◌, ◌≤◌, inl, inr, Bool, true, false, cond, List, [], ◌∷◌, ◌++◌, length, take, drop, drop-drop, Option, Result, Ok, Err, refl, sym, ap, subst, ◌∙◌, arith, append-nil, length-append}
 use Rattle.std.specs.Prelude.{map, nat_le, IfOk}
-use Rattle.tp_run.proofs.Lower.{Began, enumerate_from, take-append-le, take_all, take-take, Appends, Entry, Confirm, NodeState, t414, Network, plain_network, after, LeavesOnly, State, moment, device_areas, next_number, World, RecoversTo, and_then, weaker, chain_leads, GoesOn, run_goes_on, BookValue, next_in_book, world_of, marks_of, after_confirm, port_in, shown_from, shown_of, shown_upto_of, with_confirmed, confirm_entries, ReceiptValue, IsFor, IsAheadOf, Reached, Flushing, Walked, reached_then, walked_nowhere, walked_recovers, walked_stays, recovers_less}
+use Rattle.tp_run.proofs.Lower.{AreTrue, Began, enumerate_from, take-append-le, take_all, take-take, Appends, Entry, Confirm, NodeState, t414, Network, plain_network, after, LeavesOnly, State, moment, device_areas, next_number, World, RecoversTo, and_then, weaker, chain_leads, GoesOn, run_goes_on, BookValue, next_in_book, world_of, marks_of, after_confirm, port_in, shown_from, shown_of, shown_upto_of, with_confirmed, confirm_entries, ReceiptValue, IsFor, IsAheadOf, Reached, Flushing, Walked, reached_then, walked_nowhere, walked_recovers, walked_stays, recovers_less}
 use Rattle.tp_run.specs.declared.fault.RunFault.{RunFault}
 use Rattle.tp_run.specs.Output.{AreOutputs, AreShownBytes, IsForOutput, PrintedOf, ShowsAll, confirms}
 use Rattle.tp_run.specs.Outlet.{OutletValue, WasCalled}
@@ -101,9 +101,9 @@ shows_book start w b port mark confirmed number A S at is =
     )
 
 -- all outputs that such a book keeps may be printed
-pub may_take_all : (keeps : Type 0) (start : Network NodeState) (before : World NodeState) (f : Flushing) (b : BookValue) (port mark confirmed : ℕ) → (keeps → Began start before f.opened → IsAheadOf start f.world b)
-    → mark ≡ f.world.mark → ShowsAll b port mark confirmed → MayTake keeps start before f (shown_from b port mark (port_in b port).out_base)
-may_take_all keeps start before f b port mark confirmed ahead at S = record {
+pub may_take_all : (start : Network NodeState) (before : World NodeState) (f : Flushing) (b : BookValue) (port mark confirmed : ℕ) → (AreTrue f.reads → Began start before f.opened → IsAheadOf start f.world b)
+    → mark ≡ f.world.mark → ShowsAll b port mark confirmed → MayTake start before f (shown_from b port mark (port_in b port).out_base)
+may_take_all start before f b port mark confirmed ahead at S = record {
   port = port;
   confirmed = confirmed;
   number = next_in_book b;
@@ -114,8 +114,8 @@ may_take_all keeps start before f b port mark confirmed ahead at S = record {
 }
 
 -- and then the rest of them
-pub may_take_rest : (keeps : Type 0) (start : Network NodeState) (before : World NodeState) (f : Flushing) (bytes : List ℕ) (n : ℕ) → MayTake keeps start before f bytes → MayTake keeps start before f (drop n bytes)
-may_take_rest keeps start before f bytes n M = record {
+pub may_take_rest : (start : Network NodeState) (before : World NodeState) (f : Flushing) (bytes : List ℕ) (n : ℕ) → MayTake start before f bytes → MayTake start before f (drop n bytes)
+may_take_rest start before f bytes n M = record {
   port = M.port;
   confirmed = M.confirmed;
   number = M.number;
@@ -148,17 +148,17 @@ may_show start w b port mark confirmed there was now r A at (inr (S, F)) =
     })
 
 -- the outputs that a receipt is for are shown
-pub output_shown : (keeps began : Type 0) (start : Network NodeState) (w : World NodeState) (b : BookValue) (port mark confirmed : ℕ) (was now : Option (List ℕ)) (held host : List (ℕ × Entry)) (had has : List Entry) (r : Result ReceiptValue RunFault)
-    → (keeps → began → IsAheadOf start w b) → mark ≡ w.mark → IfOk r (λ receipt. ShowsAll b port mark confirmed) → IfOk r (IsForOutput port confirmed (AreOutputs b port) was now held host had has)
-    → IfOk r (IsForOutput port confirmed (λ number bytes. keeps → began → AreShownIn start w port confirmed number bytes) was now held host had has)
-output_shown keeps began start w b port mark confirmed was now held host had has (Ok receipt) ahead at all O = record {
+pub output_shown : (premise began : Type 0) (start : Network NodeState) (w : World NodeState) (b : BookValue) (port mark confirmed : ℕ) (was now : Option (List ℕ)) (held host : List (ℕ × Entry)) (had has : List Entry) (r : Result ReceiptValue RunFault)
+    → (premise → began → IsAheadOf start w b) → mark ≡ w.mark → IfOk r (λ receipt. ShowsAll b port mark confirmed) → IfOk r (IsForOutput port confirmed (AreOutputs b port) was now held host had has)
+    → IfOk r (IsForOutput port confirmed (λ number bytes. premise → began → AreShownIn start w port confirmed number bytes) was now held host had has)
+output_shown premise began start w b port mark confirmed was now held host had has (Ok receipt) ahead at all O = record {
   printed = O.printed;
   appended = O.appended;
   confirmed = O.confirmed;
   handed = O.handed;
   are = λ k there. outputs_shown start w b port mark confirmed (ahead k there) all at O.confirmed.first O.printed O.are;
 }
-output_shown keeps began start w b port mark confirmed was now held host had has (Err e) ahead at all O = tt
+output_shown premise began start w b port mark confirmed was now held host had has (Err e) ahead at all O = tt
 
 -- ## As the journal grows
 

@@ -34,6 +34,7 @@ pub use Rattle.tp_book.specs.Marked.{after_begin, begin_refusal}
 pub use Rattle.tp_book.specs.Opened.{IsWellOpen, opened_book}
 pub use Rattle.tp_book.specs.Refusals.{IsAnswer, is_journal_full}
 pub use Rattle.tp_book.specs.declared.refusal.Refusal.{Refusal}
+pub use Rattle.tp_disk.specs.Reads.{AreTrue, WereTrue}
 pub use Rattle.tp_area.specs.Capacity.{half_capacity, journal_of}
 pub use Rattle.tp_area.specs.Places.{place_at}
 pub use Rattle.tp_recover.specs.EntriesLeft.{entries_left}

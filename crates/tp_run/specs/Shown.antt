@@ -1,6 +1,6 @@
 -- Which outputs a run printed, by its journal.
 use Rattle.std.specs.Prelude.{◌≡◌, ◌≤◌, ◌⊎◌, ℕ, List, [], get_or, length, take, drop, Some, Result}
-use Rattle.tp_run.specs.Lower.{Entry, NodeState, t414, Network, Port, after, LeavesOnly, State, moment, device_areas, next_number, World, RecoversTo, Began, Flushing}
+use Rattle.tp_run.specs.Lower.{AreTrue, Entry, NodeState, t414, Network, Port, after, LeavesOnly, State, moment, device_areas, next_number, World, RecoversTo, Began, Flushing}
 use Rattle.tp_run.specs.declared.fault.RunFault.{RunFault}
 use Rattle.tp_run.specs.Outlet.{OutletValue}
 use Rattle.tp_run.specs.Prints.{MayBeSilent, PrintsAt}
@@ -22,14 +22,14 @@ AreShownIn start w port confirmed number outputs = (number ≤ w.mark) × LeadsT
 
 -- Bytes that an outlet may be called for: the last ones of a port's outputs that nobody has confirmed. They come from entries of the flusher's journal
 -- that are below its mark, so no crash takes them back.
-pub record MayTake (keeps : Type 0) (start : Network NodeState) (before : World NodeState) (f : Flushing) (bytes : List ℕ) : Type 0 where
+pub record MayTake (start : Network NodeState) (before : World NodeState) (f : Flushing) (bytes : List ℕ) : Type 0 where
   pub port : ℕ
   pub confirmed : ℕ
   pub number : ℕ
   pub outputs : List ℕ
   pub taken : ℕ
   pub rest : bytes ≡ drop taken outputs
-  pub shown : keeps → Began start before f.opened → AreShownIn start f.world port confirmed number outputs
+  pub shown : AreTrue f.reads → Began start before f.opened → AreShownIn start f.world port confirmed number outputs
 
 -- Bytes open to the network that a prefix of the journal leads to, and the prefix has at most its first `number` entries.
 pub record IsUpTo (start : Network NodeState) (journal : List Entry) (number : ℕ) (left : List ℕ) : Type 0 where

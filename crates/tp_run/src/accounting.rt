@@ -1,7 +1,7 @@
 //! Who made each entry that was journalled.
 
 ghost use Rattle.std.specs.Prelude.{◌≡◌, ◌++◌, flat_map, IfErr, IfOk};
-ghost use Rattle.tp_run.specs.Lower.{AreAll, Began};
+ghost use Rattle.tp_run.specs.Lower.{AreTrue, AreAll, Began};
 ghost use Rattle.tp_run.specs.Faults.{IsLate};
 ghost use Rattle.tp_run.specs.Prints.{TellsAllPrinted};
 
@@ -35,7 +35,7 @@ pub(crate) fn account<J: Naming, D: Disk>(
     requires first { first ≡ J.first }
     ensures same { (flusher.new ≡ flusher.old) × (held.new ≡ held.old) }
     ensures next { IfOk result (λ answer. answer ≡ next) }
-    ensures all { D.keeps → Began J.formatted J.before flusher.old.opened
+    ensures all { AreTrue flusher.new.reads → Began J.formatted J.before flusher.old.opened
         → IfOk result (λ answer. AreAll J.first answer flusher.old.world.journal (host ++ flat_map (λ seat. seat.slips) seats.items)) }
     ensures late { IfErr result IsLate }
     ensures told { TellsAllPrinted result }

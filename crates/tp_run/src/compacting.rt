@@ -1,7 +1,7 @@
 //! Compacting a device: its network as it is becomes the cut, and its journal becomes empty.
 
 ghost use Rattle.std.specs.Prelude.{◌≡◌, ◌≤◌, ◌+◌, [], length, true, false, Ok, Err, Some, None, IfOk, IfSome, IsErr, MatchResult};
-ghost use Rattle.tp_run.specs.Lower.{AllByRecursion, place_at, IsSameProcess, Walked, Began, IsNodeOfBytes, entries_left, IsSynced, is_full_for_snapshot, is_roomy, room, t414_ends, next_of, verdict, IsCut, Resting, LeavesNothingNew, Unopened, IsMadeOf, Names};
+ghost use Rattle.tp_run.specs.Lower.{AreTrue, WereTrue, AllByRecursion, place_at, IsSameProcess, Walked, Began, IsNodeOfBytes, entries_left, IsSynced, is_full_for_snapshot, is_roomy, room, t414_ends, next_of, verdict, IsCut, Resting, LeavesNothingNew, Unopened, IsMadeOf, Names};
 ghost use Rattle.tp_run.specs.Compacted.{AddsNone, CompactAnswer, Compacted, GrewByOne, IsBeginFault, SaysLast, StaysUnopened, begin_fault, flush_fault, has_failed_in, room_behind};
 ghost use Rattle.tp_run.specs.Failures.{failures_after};
 ghost use Rattle.tp_run.specs.Ran.{History};
@@ -154,7 +154,7 @@ fn adds_none<J: Naming, D: Disk, R: Wait>(
     requires first { first ≡ J.first }
     requires empty { seat.old ≡ [] }
     ensures same { flusher.new ≡ flusher.old }
-    ensures none { result ≡ true → D.keeps → Began J.formatted J.before flusher.old.opened → AddsNone J.first flusher.old.world }
+    ensures none { result ≡ true → AreTrue flusher.new.reads → Began J.formatted J.before flusher.old.opened → AddsNone J.first flusher.old.world }
 {
     let mut held = shared.book().lock(rt);
     flusher.settle_book(&mut held);
@@ -176,12 +176,13 @@ fn switch_all<J: Naming, D: Disk, R: Wait>(
     requires rests { flusher.old.world.at ≡ Resting }
     requires first { first ≡ J.first }
     requires empty { seat.old ≡ [] }
-    ensures walks { D.keeps → Began J.formatted J.before flusher.old.opened → Walked flusher.old flusher.new }
+    ensures premise { WereTrue flusher.old.reads flusher.new.reads }
+    ensures walks { AreTrue flusher.new.reads → Began J.formatted J.before flusher.old.opened → Walked flusher.old flusher.new }
     ensures process { IsSameProcess flusher.old flusher.new }
     ensures failures { flusher.new.failures ≡ failures_after (has_failed_in result) flusher.old.failures }
     ensures last { SaysLast result (is_full_for_snapshot flusher.old.place.generation) }
     ensures stored { IfOk result (λ done. done.next ≡ flusher.new.world.mark) }
-    ensures none { D.keeps → Began J.formatted J.before flusher.old.opened → IfOk result (λ done. AddsNone J.first flusher.new.world) }
+    ensures none { AreTrue flusher.new.reads → Began J.formatted J.before flusher.old.opened → IfOk result (λ done. AddsNone J.first flusher.new.world) }
     ensures switched { IfOk result (λ done. done.generation ≡ flusher.old.place.generation + 1) }
     ensures room { IfOk result (λ done. done.room ≤ entries_left 0 done.next journal) }
 {
@@ -230,10 +231,11 @@ fn compact_parts<J: Naming, D: Disk, R: Wait>(
     requires topology { topology ≡ opened.value.head.topology }
     requires roomy { is_roomy opened.value.head.topology opened.value.head.areas.length ≡ true }
     requires unbroken { store.broken ≡ false }
-    requires read { D.keeps → verdict (D.state store.disk).now.bytes ≡ Ok opened.value }
-    requires synced { D.keeps → IsSynced (D.state store.disk) }
+    requires read { AreTrue (D.reads store.disk) → verdict (D.state store.disk).now.bytes ≡ Ok opened.value }
+    requires synced { AreTrue (D.reads store.disk) → IsSynced (D.state store.disk) }
     ensures size { D.size_of result.0 ≡ D.size_of store.disk }
-    ensures kept { D.keeps → Began J.formatted J.before (D.state store.disk).now.bytes → Compacted J.formatted result.1 (D.state store.disk) (D.state result.0) }
+    ensures premise { WereTrue (D.reads store.disk) (D.reads result.0) }
+    ensures kept { AreTrue (D.reads result.0) → Began J.formatted J.before (D.state store.disk).now.bytes → Compacted J.formatted result.1 (D.state store.disk) (D.state result.0) }
     ensures switched { IfOk result.1 (λ done. done.generation ≡ store.place.generation + 1) }
     ensures room { IfOk result.1 (λ done. done.room ≤ room_behind topology store.place.areas.length done.next) }
     ensures failures { D.failures_of result.0 ≡ failures_after (has_failed_in result.1) (D.failures_of store.disk) }
@@ -267,11 +269,12 @@ pub fn compact<D: Disk, R: Wait>(
 ) -> (D, Result<Compaction, CompactFault>)
     ghost history: { History }
     ensures size { D.size_of result.0 ≡ D.size_of disk }
-    ensures kept { D.keeps → Began history.formatted history.before (D.state disk).now.bytes → Compacted history.formatted result.1 (D.state disk) (D.state result.0) }
-    ensures grown { D.keeps → IfOk result.1 (GrewByOne (verdict (D.state disk).now.bytes)) }
-    ensures unwritten { D.keeps → StaysUnopened result.1 → LeavesNothingNew (D.state disk) (D.state result.0) }
-    ensures unopened { D.keeps → IsErr (verdict (D.state disk).now.bytes) → (unopened : Unopened) × (result.1 ≡ Err (CompactFault.Opening unopened)) }
-    ensures answer { D.keeps → CompactAnswer (verdict (D.state disk).now.bytes) result.1 }
+    ensures premise { WereTrue (D.reads disk) (D.reads result.0) }
+    ensures kept { AreTrue (D.reads result.0) → Began history.formatted history.before (D.state disk).now.bytes → Compacted history.formatted result.1 (D.state disk) (D.state result.0) }
+    ensures grown { AreTrue (D.reads result.0) → IfOk result.1 (GrewByOne (verdict (D.state disk).now.bytes)) }
+    ensures unwritten { StaysUnopened result.1 → LeavesNothingNew (D.state disk) (D.state result.0) }
+    ensures unopened { AreTrue (D.reads result.0) → IsErr (verdict (D.state disk).now.bytes) → (unopened : Unopened) × (result.1 ≡ Err (CompactFault.Opening unopened)) }
+    ensures answer { AreTrue (D.reads result.0) → CompactAnswer (verdict (D.state disk).now.bytes) result.1 }
     ensures failures { D.failures_of result.0 ≡ failures_after (has_failed_in result.1) (D.failures_of disk) }
 {
     let mut disk = disk;

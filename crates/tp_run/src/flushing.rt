@@ -1,7 +1,7 @@
 //! The flusher's thread, and flushes after it.
 
 ghost use Rattle.std.specs.Prelude.{◌≡◌, ◌≤◌, Err, IsOk, IfOk, IfErr, OnOk, MatchResult};
-ghost use Rattle.tp_run.specs.Lower.{Resting, Began, IsSameProcess, Walked};
+ghost use Rattle.tp_run.specs.Lower.{AreTrue, WereTrue, Resting, Began, IsSameProcess, Walked};
 ghost use Rattle.tp_run.specs.Failures.{CountsFailures, IsFlushFault, flush_fault_of};
 
 use crate::fault::RunFault;
@@ -31,7 +31,8 @@ pub(crate) fn flush_meanwhile<J: Naming, D: Disk, R: Wait>(
     watch: &Watch,
     first: Flusher<J, D>,
 ) -> Flusher<J, D>
-    ensures walks { D.keeps → Began J.formatted J.before first.opened → Walked first result }
+    ensures premise { WereTrue first.reads result.reads }
+    ensures walks { AreTrue result.reads → Began J.formatted J.before first.opened → Walked first result }
     ensures process { IsSameProcess first result }
     ensures failures { CountsFailures first result }
 {
@@ -85,7 +86,8 @@ fn flush<J: Naming, D: Disk, R: Wait>(
     flusher: &mut Flusher<J, D>,
     fault: RunFault,
 ) -> Result<(), RunFault>
-    ensures walks { D.keeps → Began J.formatted J.before flusher.old.opened → Walked flusher.old flusher.new }
+    ensures premise { WereTrue flusher.old.reads flusher.new.reads }
+    ensures walks { AreTrue flusher.new.reads → Began J.formatted J.before flusher.old.opened → Walked flusher.old flusher.new }
     ensures process { IsSameProcess flusher.old flusher.new }
     ensures failures { CountsFailures flusher.old flusher.new }
     ensures rests { OnOk result (flusher.new.world.at ≡ Resting) }
@@ -104,7 +106,8 @@ pub(crate) fn flush_upto<J: Naming, D: Disk, R: Wait>(
     number: u64,
     fault: RunFault,
 ) -> Result<u64, RunFault>
-    ensures walks { D.keeps → Began J.formatted J.before flusher.old.opened → Walked flusher.old flusher.new }
+    ensures premise { WereTrue flusher.old.reads flusher.new.reads }
+    ensures walks { AreTrue flusher.new.reads → Began J.formatted J.before flusher.old.opened → Walked flusher.old flusher.new }
     ensures process { IsSameProcess flusher.old flusher.new }
     ensures failures { CountsFailures flusher.old flusher.new }
     ensures rests { OnOk result (flusher.new.world.at ≡ Resting) }

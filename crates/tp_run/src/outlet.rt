@@ -32,7 +32,7 @@ pub trait Outlet {
         flusher: &Flusher<J, D>,
         bytes: &[u8],
     ) -> Result<usize, OutletFault>
-        requires shown { MayTake D.keeps J.formatted J.before flusher.now bytes.now }
+        requires shown { MayTake J.formatted J.before flusher.now bytes.now }
         ensures some { 0 < length bytes.now → IfOk result (λ count. 0 < count) }
         ensures few { WritesAtMost result bytes.now }
         ensures takes { WriteAppends (value self.old).taken (value self.new).taken result bytes.now }

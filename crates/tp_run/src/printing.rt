@@ -1,7 +1,7 @@
 //! The output that a run prints and confirms.
 
 ghost use Rattle.std.specs.Prelude.{◌≡◌, ◌<◌, ◌≤◌, ◌++◌, length, take, IsOk, IfOk, IfErr, OnOk, OnErr};
-ghost use Rattle.tp_run.specs.Lower.{Appends, Began, next_in_book, after_confirm, port_in, shown_from, shown_of, shown_upto_of, confirm_entries, IsFor, RefusesFor, IsAheadOf};
+ghost use Rattle.tp_run.specs.Lower.{AreTrue, Appends, Began, next_in_book, after_confirm, port_in, shown_from, shown_of, shown_upto_of, confirm_entries, IsFor, RefusesFor, IsAheadOf};
 ghost use Rattle.tp_run.specs.Faults.{IsLate};
 ghost use Rattle.tp_run.specs.Output.{AreOutputs, AreShownBytes, IsForOutput, PrintedOf, ShowsAll, unconfirmed_fault};
 ghost use Rattle.tp_run.specs.Outlet.{WasCalled};
@@ -23,7 +23,7 @@ fn write_front<J: Naming, D: Disk, O: Outlet>(
     out: &mut O,
     bytes: &[u8],
 ) -> usize
-    requires shown { MayTake D.keeps J.formatted J.before flusher.now bytes.now }
+    requires shown { MayTake J.formatted J.before flusher.now bytes.now }
     ensures few { result ≤ length bytes.now }
     ensures front { Appends (O.value out.old).taken (O.value out.new).taken (take result bytes.now) }
     ensures called { WasCalled flusher.now.state bytes.now (O.value out.old) (O.value out.new) }
@@ -48,7 +48,7 @@ fn put<J: Naming, D: Disk, O: Outlet>(
     out: &mut O,
     bytes: &[u8],
 ) -> Result<(), RunFault>
-    requires shown { MayTake D.keeps J.formatted J.before flusher.now bytes.now }
+    requires shown { MayTake J.formatted J.before flusher.now bytes.now }
     ensures written { OnOk result (Appends (O.value out.old).taken (O.value out.new).taken bytes.now) }
     ensures printed { PrintsAt flusher.now.state result (O.value out.old) (O.value out.new) bytes.now }
     ensures refused { IfErr result (λ fault. fault ≡ RunFault.OutputFailed) }
@@ -102,7 +102,7 @@ fn print_shown<J: Naming, D: Disk, O: Outlet>(
     out: &mut O,
 ) -> Result<Receipt, RunFault>
     requires there { port < length held.old.book.state.ports }
-    requires shown { MayTake D.keeps J.formatted J.before flusher.now (shown_from held.old.book port mark (port_in held.old.book port).out_base) }
+    requires shown { MayTake J.formatted J.before flusher.now (shown_from held.old.book port mark (port_in held.old.book port).out_base) }
     ensures printed { PrintsAt flusher.now.state result (O.value out.old) (O.value out.new) (shown_from held.old.book port mark (port_in held.old.book port).out_base) }
     ensures book { IfOk result (λ receipt. held.new.book ≡ after_confirm held.old.book port (shown_upto_of held.old.book port mark)) }
     ensures number { IfOk result (λ receipt. receipt.number ≡ next_in_book held.new.book) }
@@ -144,7 +144,7 @@ pub(crate) fn print_from<J: Naming, D: Disk, O: Outlet>(
 ) -> Result<Receipt, RunFault>
     requires there { outset.port < length held.old.book.state.ports }
     requires mark { mark ≡ flusher.now.world.mark }
-    requires ahead { D.keeps → Began J.formatted J.before flusher.now.opened → IsAheadOf J.formatted flusher.now.world held.old.book }
+    requires ahead { AreTrue flusher.now.reads → Began J.formatted J.before flusher.now.opened → IsAheadOf J.formatted flusher.now.world held.old.book }
     ensures receipt { IfOk result (IsForOutput outset.port outset.confirmed (AreOutputs held.old.book outset.port) (O.value out.old).taken (O.value out.new).taken seat.old seat.new key.old key.new) }
     ensures all { IfOk result (λ receipt. ShowsAll held.old.book outset.port mark outset.confirmed) }
     ensures printed { PrintedOf held.old.book outset.port mark outset.confirmed flusher.now.state (O.value out.old) (O.value out.new) result }

@@ -1,7 +1,7 @@
 //! What a run leaves to do in the network.
 
 ghost use Rattle.std.specs.Prelude.{◌≡◌, ◌≤◌, IfOk};
-ghost use Rattle.tp_flush.specs.Known.{Began};
+ghost use Rattle.tp_run.specs.Lower.{AreTrue, Began};
 ghost use Rattle.tp_run.specs.Rested.{SaysRest};
 
 use crate::fault::RunFault;
@@ -22,7 +22,7 @@ pub(crate) fn rest_after<J: Naming, D: Disk, R: Wait>(
 ) -> Rest
     requires stored { IfOk done.now (λ next. next ≤ flusher.old.world.mark) }
     ensures same { flusher.new ≡ flusher.old }
-    ensures says { D.keeps → Began J.formatted J.before flusher.old.opened → IfOk done.now (λ next. SaysRest J.formatted flusher.old.world.journal next result) }
+    ensures says { AreTrue flusher.new.reads → Began J.formatted J.before flusher.old.opened → IfOk done.now (λ next. SaysRest J.formatted flusher.old.world.journal next result) }
 {
     let Ok(next) = done else {
         return Rest::Busy;

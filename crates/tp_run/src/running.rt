@@ -1,7 +1,7 @@
 //! A run, from a device to a device.
 
 ghost use Rattle.std.specs.Prelude.{◌≡◌, ◌<◌, ◌≤◌, [], true, false, All, Ok, Err, Some, length, vec_len, IfErr, IfOk, IsErr};
-ghost use Rattle.tp_run.specs.Lower.{AllByRecursion, place_at, Began, IsSameProcess, Walked, IsSynced, IsNodeOfBytes, is_roomy, room, t414_ends, verdict, IsCut, Resting, MAX_STEPS, LeavesNothingNew, IsMadeOf, Unopened, MAX_WORKERS, Names};
+ghost use Rattle.tp_run.specs.Lower.{AreTrue, WereTrue, AllByRecursion, place_at, Began, IsSameProcess, Walked, IsSynced, IsNodeOfBytes, is_roomy, room, t414_ends, verdict, IsCut, Resting, MAX_STEPS, LeavesNothingNew, IsMadeOf, Unopened, MAX_WORKERS, Names};
 ghost use Rattle.tp_run.specs.Answered.{AnswerFor};
 ghost use Rattle.tp_run.specs.Failures.{failures_after, has_failed};
 ghost use Rattle.tp_run.specs.Faults.{ComesBegun, IsSilent, IsUnbegun};
@@ -64,17 +64,18 @@ fn use_up<J: Naming + Send + Sync, D: Disk + Send + Drop, O: Outlet, R: Threads 
     requires host { host ≡ [] }
     requires key { key ≡ [] }
     requires rests { flusher.world.at ≡ Resting }
-    ensures walks { D.keeps → Began J.formatted J.before flusher.opened → Walked flusher result.0 }
+    ensures premise { WereTrue flusher.reads result.0.reads }
+    ensures walks { AreTrue result.0.reads → Began J.formatted J.before flusher.opened → Walked flusher result.0 }
     ensures process { IsSameProcess flusher result.0 }
     ensures failures { result.0.failures ≡ failures_after (has_failed result.1) flusher.failures }
     ensures stored { IfOk result.1 (λ next. next ≤ result.0.world.mark) }
-    ensures settled { D.keeps → Began J.formatted J.before flusher.opened
+    ensures settled { AreTrue result.0.reads → Began J.formatted J.before flusher.opened
         → IfOk result.1 (Settled J.formatted J.start job outset (input_slips outset input.now) (O.value out.old).taken (O.value out.new).taken result.0.world.journal) }
-    ensures shown { D.keeps → Began J.formatted J.before flusher.opened
+    ensures shown { AreTrue result.0.reads → Began J.formatted J.before flusher.opened
         → MayPrint J.formatted flusher result.0 outset.port outset.confirmed (O.value out.old) (O.value out.new) result.1 }
-    ensures handed { D.keeps → Began J.formatted J.before flusher.opened
+    ensures handed { AreTrue result.0.reads → Began J.formatted J.before flusher.opened
         → HandedOver J.formatted result.0.world.journal outset input.now (O.value out.old).taken (O.value out.new).taken }
-    ensures rest { D.keeps → Began J.formatted J.before flusher.opened
+    ensures rest { AreTrue result.0.reads → Began J.formatted J.before flusher.opened
         → IfOk result.1 (λ next. SaysRest J.formatted result.0.world.journal next result.2) }
     ensures silent { IsSilent result.1 → O.value out.new ≡ O.value out.old }
     ensures some { IfErr result.1 (λ fault. fault ≡ RunFault.OfferRefused → 0 < length (rest_at outset input.now)) }
@@ -120,12 +121,13 @@ fn run_parts<J: Naming + Send + Sync, D: Disk + Send + Drop, O: Outlet, R: Threa
     requires network { J.start ≡ opened.value.cut }
     requires roomy { is_roomy opened.value.head.topology opened.value.head.areas.length ≡ true }
     requires unbroken { store.broken ≡ false }
-    requires read { D.keeps → verdict (D.state store.disk).now.bytes ≡ Ok opened.value }
-    requires synced { D.keeps → IsSynced (D.state store.disk) }
+    requires read { AreTrue (D.reads store.disk) → verdict (D.state store.disk).now.bytes ≡ Ok opened.value }
+    requires synced { AreTrue (D.reads store.disk) → IsSynced (D.state store.disk) }
     ensures size { D.size_of result.0 ≡ D.size_of store.disk }
-    ensures called { D.keeps → Began J.formatted J.before (D.state store.disk).now.bytes
+    ensures premise { WereTrue (D.reads store.disk) (D.reads result.0) }
+    ensures called { AreTrue (D.reads result.0) → Began J.formatted J.before (D.state store.disk).now.bytes
         → RanInto J.formatted job input.now (O.value out.old) (O.value out.new) result.1 (D.state store.disk) (D.state result.0) }
-    ensures rest { D.keeps → Began J.formatted J.before (D.state store.disk).now.bytes
+    ensures rest { AreTrue (D.reads result.0) → Began J.formatted J.before (D.state store.disk).now.bytes
         → IfOk result.1 (λ next. RestsAt J.formatted result.2 next (D.state store.disk) (D.state result.0)) }
     ensures silent { IsSilent result.1 → O.value out.new ≡ O.value out.old }
     ensures failures { D.failures_of result.0 ≡ failures_after (has_failed result.1) (D.failures_of store.disk) }
@@ -187,16 +189,17 @@ pub fn run<D: Disk + Send + Drop, O: Outlet, R: Threads + Wait + Sync>(
     requires workers { (0 < job.workers) × (job.workers ≤ MAX_WORKERS) }
     requires quantum { (0 < job.quantum) × (job.quantum ≤ MAX_STEPS) }
     ensures size { D.size_of result.0 ≡ D.size_of disk }
-    ensures ran { D.keeps → Began history.formatted history.before (D.state disk).now.bytes
+    ensures premise { WereTrue (D.reads disk) (D.reads result.0) }
+    ensures ran { AreTrue (D.reads result.0) → Began history.formatted history.before (D.state disk).now.bytes
         → Ran history.formatted job input.now (O.value out.old).taken (O.value out.new).taken result.1 (D.state disk) (D.state result.0) }
-    ensures called { D.keeps → Began history.formatted history.before (D.state disk).now.bytes
+    ensures called { AreTrue (D.reads result.0) → Began history.formatted history.before (D.state disk).now.bytes
         → RanInto history.formatted job input.now (O.value out.old) (O.value out.new) result.1 (D.state disk) (D.state result.0) }
-    ensures rest { D.keeps → Began history.formatted history.before (D.state disk).now.bytes
+    ensures rest { AreTrue (D.reads result.0) → Began history.formatted history.before (D.state disk).now.bytes
         → IfOk result.1 (λ next. RestsAt history.formatted result.2 next (D.state disk) (D.state result.0)) }
-    ensures unwritten { D.keeps → IsUnbegun result.1 → LeavesNothingNew (D.state disk) (D.state result.0) }
+    ensures unwritten { IsUnbegun result.1 → LeavesNothingNew (D.state disk) (D.state result.0) }
     ensures silent { IsSilent result.1 → O.value out.new ≡ O.value out.old }
-    ensures unopened { D.keeps → IsErr (verdict (D.state disk).now.bytes) → (unopened : Unopened) × (result.1 ≡ Err (RunFault.Opening unopened)) }
-    ensures answer { D.keeps → AnswerFor (verdict (D.state disk).now.bytes) job input.now result.1 }
+    ensures unopened { AreTrue (D.reads result.0) → IsErr (verdict (D.state disk).now.bytes) → (unopened : Unopened) × (result.1 ≡ Err (RunFault.Opening unopened)) }
+    ensures answer { AreTrue (D.reads result.0) → AnswerFor (verdict (D.state disk).now.bytes) job input.now result.1 }
     ensures failures { D.failures_of result.0 ≡ failures_after (has_failed result.1) (D.failures_of disk) }
 {
     let mut disk = disk;

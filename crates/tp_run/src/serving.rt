@@ -1,7 +1,7 @@
 //! What a run does with a network in threads, and with its flusher.
 
 ghost use Rattle.std.specs.Prelude.{◌≡◌, ◌<◌, ◌≤◌, ◌⊎◌, ◌++◌, [], All, flat_map, length, vec_len, IfErr, IfOk, OnErr, Some};
-ghost use Rattle.tp_run.specs.Lower.{Began, IsSameProcess, Walked, position, SlipsStand, AreAll, Resting};
+ghost use Rattle.tp_run.specs.Lower.{AreTrue, WereTrue, Began, IsSameProcess, Walked, position, SlipsStand, AreAll, Resting};
 ghost use Rattle.tp_run.specs.Failures.{CountsFailures, failures_after, has_failed};
 ghost use Rattle.tp_run.specs.Faults.{ComesBegun, ComesBehind, IsLate, IsOfferFault, IsSilent};
 ghost use Rattle.tp_run.specs.HandedOver.{ConfirmsTaken, HandsIn};
@@ -67,9 +67,9 @@ fn print_settled<J: Naming, D: Disk, O: Outlet>(
     requires mark { mark ≡ flusher.old.world.mark }
     ensures same { flusher.new ≡ flusher.old }
     ensures receipt { IfOk result (IsForOutput outset.port outset.confirmed
-        (λ number bytes. D.keeps → Began J.formatted J.before flusher.old.opened → AreShownIn J.formatted flusher.old.world outset.port outset.confirmed number bytes)
+        (λ number bytes. AreTrue flusher.new.reads → Began J.formatted J.before flusher.old.opened → AreShownIn J.formatted flusher.old.world outset.port outset.confirmed number bytes)
         (O.value out.old).taken (O.value out.new).taken seat.old seat.new key.old key.new) }
-    ensures shown { D.keeps → Began J.formatted J.before flusher.old.opened
+    ensures shown { AreTrue flusher.new.reads → Began J.formatted J.before flusher.old.opened
         → MayShow J.formatted flusher.old.world.journal flusher.old.world.mark outset.port outset.confirmed flusher.old.state (O.value out.old) (O.value out.new) result }
     ensures late { IfErr result IsLate }
     ensures err { OnErr result ((held.new ≡ held.old) × (seat.new ≡ seat.old) × (key.new ≡ key.old)) }
@@ -93,9 +93,9 @@ fn print<J: Naming, D: Disk, O: Outlet, R: Wait>(
     requires mark { mark ≡ flusher.old.world.mark }
     ensures same { flusher.new ≡ flusher.old }
     ensures receipt { IfOk result (IsForOutput outset.port outset.confirmed
-        (λ number bytes. D.keeps → Began J.formatted J.before flusher.old.opened → AreShownIn J.formatted flusher.old.world outset.port outset.confirmed number bytes)
+        (λ number bytes. AreTrue flusher.new.reads → Began J.formatted J.before flusher.old.opened → AreShownIn J.formatted flusher.old.world outset.port outset.confirmed number bytes)
         (O.value out.old).taken (O.value out.new).taken seat.old seat.new key.old key.new) }
-    ensures shown { D.keeps → Began J.formatted J.before flusher.old.opened
+    ensures shown { AreTrue flusher.new.reads → Began J.formatted J.before flusher.old.opened
         → MayShow J.formatted flusher.old.world.journal flusher.old.world.mark outset.port outset.confirmed flusher.old.state (O.value out.old) (O.value out.new) result }
     ensures late { IfErr result IsLate }
     ensures err { OnErr result ((seat.new ≡ seat.old) × (key.new ≡ key.old)) }
@@ -117,7 +117,8 @@ fn work<J: Naming + Send + Sync, D: Disk + Send + Drop, R: Threads + Wait + Sync
     flusher: Flusher<J, D>,
 ) -> (Flusher<J, D>, Vec<Seat<J>>)
     requires seats { All (λ seat. (seat.hand.of ≡ Some net.now.queue) × Worked J.start net.now.quantum seat.slips) seats.items }
-    ensures walks { D.keeps → Began J.formatted J.before flusher.opened → Walked flusher result.0 }
+    ensures premise { WereTrue flusher.reads result.0.reads }
+    ensures walks { AreTrue result.0.reads → Began J.formatted J.before flusher.opened → Walked flusher result.0 }
     ensures process { IsSameProcess flusher result.0 }
     ensures failures { CountsFailures flusher result.0 }
     ensures count { vec_len result.1 ≡ vec_len seats }
@@ -128,7 +129,7 @@ fn work<J: Naming + Send + Sync, D: Disk + Send + Drop, R: Threads + Wait + Sync
     join(
         rt,
         move || -> Flusher<J, D>
-            ensures { (D.keeps → Began J.formatted J.before flusher.opened → Walked flusher result) × IsSameProcess flusher result × CountsFailures flusher result }
+            ensures { WereTrue flusher.reads result.reads × (AreTrue result.reads → Began J.formatted J.before flusher.opened → Walked flusher result) × IsSameProcess flusher result × CountsFailures flusher result }
         { flush_meanwhile(rt, alloc, shared, watching, flusher) },
         move || -> Vec<Seat<J>>
             requires { All (λ seat. (seat.hand.of ≡ Some net.now.queue) × Worked J.start net.now.quantum seat.slips) seats.items }
@@ -154,9 +155,9 @@ fn settle<J: Naming, D: Disk, R: Wait>(
 ) -> Result<u64, RunFault>
     requires first { first ≡ J.first }
     ensures same { flusher.new ≡ flusher.old }
-    ensures stand { D.keeps → Began J.formatted J.before flusher.old.opened → SlipsStand flusher.old.world.journal host }
+    ensures stand { AreTrue flusher.new.reads → Began J.formatted J.before flusher.old.opened → SlipsStand flusher.old.world.journal host }
     ensures next { IfOk result (λ answer. answer ≡ next) }
-    ensures all { D.keeps → Began J.formatted J.before flusher.old.opened
+    ensures all { AreTrue flusher.new.reads → Began J.formatted J.before flusher.old.opened
         → IfOk result (λ answer. AreAll J.first answer flusher.old.world.journal (host ++ flat_map (λ seat. seat.slips) seats.items)) }
     ensures late { IfErr result IsLate }
     ensures told { TellsAllPrinted result }
@@ -189,14 +190,15 @@ fn finish<J: Naming, D: Disk, O: Outlet, R: Wait>(
     requires first { outset.next ≡ J.first }
     requires seats { All (λ seat. Worked J.start job.quantum seat.slips) seats.items }
     requires count { vec_len seats ≡ job.workers }
-    ensures walks { D.keeps → Began J.formatted J.before flusher.old.opened → Walked flusher.old flusher.new }
+    ensures premise { WereTrue flusher.old.reads flusher.new.reads }
+    ensures walks { AreTrue flusher.new.reads → Began J.formatted J.before flusher.old.opened → Walked flusher.old flusher.new }
     ensures process { IsSameProcess flusher.old flusher.new }
     ensures stored { IfOk result (λ next. next ≤ flusher.new.world.mark) }
-    ensures settled { D.keeps → Began J.formatted J.before flusher.old.opened
+    ensures settled { AreTrue flusher.new.reads → Began J.formatted J.before flusher.old.opened
         → IfOk result (Settled J.formatted J.start job outset host (O.value out.old).taken (O.value out.new).taken flusher.new.world.journal) }
-    ensures shown { D.keeps → Began J.formatted J.before flusher.old.opened
+    ensures shown { AreTrue flusher.new.reads → Began J.formatted J.before flusher.old.opened
         → MayPrint J.formatted flusher.old flusher.new outset.port outset.confirmed (O.value out.old) (O.value out.new) result }
-    ensures handed { D.keeps → Began J.formatted J.before flusher.old.opened
+    ensures handed { AreTrue flusher.new.reads → Began J.formatted J.before flusher.old.opened
         → (key.new ≡ key.old) ⊎ ConfirmsTaken J.formatted flusher.new.world.journal outset.port outset.confirmed (O.value out.old).taken (O.value out.new).taken key.old key.new }
     ensures silent { IsSilent result → O.value out.new ≡ O.value out.old }
     ensures failures { CountsFailures flusher.old flusher.new }
@@ -244,15 +246,16 @@ pub(crate) fn serve<
     requires host { host ≡ [] }
     requires key { key.old ≡ [] }
     requires rests { flusher.world.at ≡ Resting }
-    ensures walks { D.keeps → Began J.formatted J.before flusher.opened → Walked flusher result.0 }
+    ensures premise { WereTrue flusher.reads result.0.reads }
+    ensures walks { AreTrue result.0.reads → Began J.formatted J.before flusher.opened → Walked flusher result.0 }
     ensures process { IsSameProcess flusher result.0 }
     ensures failures { result.0.failures ≡ failures_after (has_failed result.1) flusher.failures }
     ensures stored { IfOk result.1 (λ next. next ≤ result.0.world.mark) }
-    ensures settled { D.keeps → Began J.formatted J.before flusher.opened
+    ensures settled { AreTrue result.0.reads → Began J.formatted J.before flusher.opened
         → IfOk result.1 (Settled J.formatted J.start job outset (input_slips outset input.now) (O.value out.old).taken (O.value out.new).taken result.0.world.journal) }
-    ensures shown { D.keeps → Began J.formatted J.before flusher.opened
+    ensures shown { AreTrue result.0.reads → Began J.formatted J.before flusher.opened
         → MayPrint J.formatted flusher result.0 outset.port outset.confirmed (O.value out.old) (O.value out.new) result.1 }
-    ensures handed { D.keeps → Began J.formatted J.before flusher.opened
+    ensures handed { AreTrue result.0.reads → Began J.formatted J.before flusher.opened
         → HandsIn J.formatted result.0.world.journal outset input.now (O.value out.old).taken (O.value out.new).taken key.new }
     ensures silent { IsSilent result.1 → O.value out.new ≡ O.value out.old }
     ensures some { IfErr result.1 (λ fault. fault ≡ RunFault.OfferRefused → 0 < length (rest_at outset input.now)) }

@@ -58,6 +58,7 @@ pub use Rattle.tp_book.specs.Refusals.{is_journal_full}
 pub use Rattle.tp_book.specs.declared.refusal.Refusal.{Refusal}
 pub use Rattle.tp_book.specs.declared.state.NetState.{NetState}
 pub use Rattle.tp_disk.proofs.Calls.{weaker}
+pub use Rattle.tp_disk.specs.Reads.{AreTrue, Reading, WereTrue}
 pub use Rattle.tp_area.specs.declared.journal.JournalRoom.{JournalRoom}
 pub use Rattle.tp_recover.proofs.Leaving.{none_leaves}
 pub use Rattle.tp_recover.specs.Reading.{LeavesNothingNew, has_read}

@@ -37,6 +37,7 @@ pub use Rattle.tp_book.specs.Ports.{fresh_value}
 pub use Rattle.tp_book.specs.Refusals.{is_journal_full}
 pub use Rattle.tp_book.specs.declared.refusal.Refusal.{Refusal}
 pub use Rattle.tp_turn.specs.declared.take.TheConstants.{TAKES, TURN_ENTRIES}
+pub use Rattle.tp_disk.specs.Reads.{AreTrue, WereTrue}
 pub use Rattle.tp_area.specs.Capacity.{capacity, half_capacity, journal_of, left_behind, takes}
 pub use Rattle.tp_area.specs.Places.{place_at}
 pub use Rattle.tp_area.specs.declared.journal.JournalRoom.{JournalRoom}

@@ -1,7 +1,7 @@
 //! Workers, and the flusher's turns while they work.
 
 ghost use Rattle.std.specs.Prelude.{◌≡◌, ◌≤◌, ◌*◌, ◌-◌, ◌^◌, min, All, Some, None, IfOk, IfErr, IfSome};
-ghost use Rattle.tp_stream.specs.Lower.{Resting, Began, IsSameProcess, Walked};
+ghost use Rattle.tp_stream.specs.Lower.{AreTrue, WereTrue, Resting, Began, IsSameProcess, Walked};
 ghost use Rattle.tp_stream.specs.FailedEnds.{NamesNoEnd};
 ghost use Rattle.tp_stream.specs.Failures.{FailedWhere, answer_failed};
 ghost use Rattle.tp_stream.specs.Outcomes.{shift_outcome};
@@ -172,7 +172,8 @@ fn flush_beside<J: Naming, D: Disk, R: Wait>(
 ) -> Result<(), StreamFault>
     requires queue { IfSome seat.old (λ seat. seat.hand.of ≡ Some net.now.queue) }
     ensures queue { IfSome seat.new (λ seat. seat.hand.of ≡ Some net.now.queue) }
-    ensures walks { D.keeps → Began J.formatted J.before flusher.old.opened → Walked flusher.old flusher.new }
+    ensures premise { WereTrue flusher.old.reads flusher.new.reads }
+    ensures walks { AreTrue flusher.new.reads → Began J.formatted J.before flusher.old.opened → Walked flusher.old flusher.new }
     ensures process { IsSameProcess flusher.old flusher.new }
     ensures failures { flusher.old.world.at ≡ Resting → FailedWhere (answer_failed result) flusher.old flusher.new }
     ensures begun { IfErr result CameOfFlush }
@@ -257,7 +258,8 @@ pub(crate) fn go_beside<J: Naming, D: Disk, R: Wait>(
 ) -> Result<Option<Ending>, StreamFault>
     requires queue { IfSome seat.old (λ seat. seat.hand.of ≡ Some ground.net.now.queue) }
     ensures queue { IfSome seat.new (λ seat. seat.hand.of ≡ Some ground.entry.net.now.queue) }
-    ensures walks { D.keeps → Began J.formatted J.before flusher.old.opened → Walked flusher.old flusher.new }
+    ensures premise { WereTrue flusher.old.reads flusher.new.reads }
+    ensures walks { AreTrue flusher.new.reads → Began J.formatted J.before flusher.old.opened → Walked flusher.old flusher.new }
     ensures process { IsSameProcess flusher.old flusher.new }
     ensures whose { turns.new.whose ≡ turns.old.whose }
     ensures idle { turns.new.idle ≡ 0 }

@@ -1,7 +1,7 @@
 //! Flushes of a stream.
 
 ghost use Rattle.std.specs.Prelude.{◌≡◌, ◌≤◌, false, length, IfOk, IfErr};
-ghost use Rattle.tp_stream.specs.Lower.{Resting, Began, IsSameProcess, Walked};
+ghost use Rattle.tp_stream.specs.Lower.{AreTrue, WereTrue, Resting, Began, IsSameProcess, Walked};
 ghost use Rattle.tp_stream.specs.Failures.{FailedWhere, answer_failed, flushing_fault};
 ghost use Rattle.tp_stream.specs.Put.{EndsPut};
 ghost use Rattle.tp_stream.specs.Streamed.{CameOfFlush};
@@ -34,7 +34,8 @@ pub(crate) fn flush<J: Naming, D: Disk, R: Wait>(
     shared: &Shared<J>,
     flusher: &mut Flusher<J, D>,
 ) -> Result<u64, StreamFault>
-    ensures walks { D.keeps → Began J.formatted J.before flusher.old.opened → Walked flusher.old flusher.new }
+    ensures premise { WereTrue flusher.old.reads flusher.new.reads }
+    ensures walks { AreTrue flusher.new.reads → Began J.formatted J.before flusher.old.opened → Walked flusher.old flusher.new }
     ensures process { IsSameProcess flusher.old flusher.new }
     ensures mark { IfOk result (λ mark. mark ≡ flusher.new.world.mark) }
     ensures failures { flusher.old.world.at ≡ Resting → FailedWhere (answer_failed result) flusher.old flusher.new }
@@ -56,8 +57,8 @@ fn last_under<J: Naming, D: Disk, S: Sink>(
 ) -> Result<u64, StreamFault>
     ensures same { flusher.new ≡ flusher.old }
     ensures stored { IfOk result (λ next. next ≤ flusher.old.world.mark) }
-    ensures last { D.keeps → Began J.formatted J.before flusher.old.opened → IfOk result (λ next. next ≡ length flusher.old.world.journal) }
-    ensures put { D.keeps → Began J.formatted J.before flusher.old.opened
+    ensures last { AreTrue flusher.new.reads → Began J.formatted J.before flusher.old.opened → IfOk result (λ next. next ≡ length flusher.old.world.journal) }
+    ensures put { AreTrue flusher.new.reads → Began J.formatted J.before flusher.old.opened
         → IfOk result (λ next. EndsPut J.formatted flusher.old.world.journal why outputs.now) }
     ensures unfailed { answer_failed result ≡ false }
     ensures begun { IfErr result CameOfFlush }
@@ -83,8 +84,8 @@ fn last_of<J: Naming, D: Disk, S: Sink, R: Wait>(
 ) -> Result<u64, StreamFault>
     ensures same { flusher.new ≡ flusher.old }
     ensures stored { IfOk result (λ next. next ≤ flusher.old.world.mark) }
-    ensures last { D.keeps → Began J.formatted J.before flusher.old.opened → IfOk result (λ next. next ≡ length flusher.old.world.journal) }
-    ensures put { D.keeps → Began J.formatted J.before flusher.old.opened
+    ensures last { AreTrue flusher.new.reads → Began J.formatted J.before flusher.old.opened → IfOk result (λ next. next ≡ length flusher.old.world.journal) }
+    ensures put { AreTrue flusher.new.reads → Began J.formatted J.before flusher.old.opened
         → IfOk result (λ next. EndsPut J.formatted flusher.old.world.journal why outputs.now) }
     ensures unfailed { answer_failed result ≡ false }
     ensures begun { IfErr result CameOfFlush }
@@ -103,11 +104,12 @@ pub(crate) fn finish<J: Naming, D: Disk, S: Sink, R: Wait>(
     why: Ending,
     outputs: &[Output<S>],
 ) -> Result<u64, StreamFault>
-    ensures walks { D.keeps → Began J.formatted J.before flusher.old.opened → Walked flusher.old flusher.new }
+    ensures premise { WereTrue flusher.old.reads flusher.new.reads }
+    ensures walks { AreTrue flusher.new.reads → Began J.formatted J.before flusher.old.opened → Walked flusher.old flusher.new }
     ensures process { IsSameProcess flusher.old flusher.new }
     ensures stored { IfOk result (λ next. next ≤ flusher.new.world.mark) }
-    ensures last { D.keeps → Began J.formatted J.before flusher.old.opened → IfOk result (λ next. next ≡ length flusher.new.world.journal) }
-    ensures put { D.keeps → Began J.formatted J.before flusher.old.opened
+    ensures last { AreTrue flusher.new.reads → Began J.formatted J.before flusher.old.opened → IfOk result (λ next. next ≡ length flusher.new.world.journal) }
+    ensures put { AreTrue flusher.new.reads → Began J.formatted J.before flusher.old.opened
         → IfOk result (λ next. EndsPut J.formatted flusher.new.world.journal why outputs.now) }
     ensures failures { flusher.old.world.at ≡ Resting → FailedWhere (answer_failed result) flusher.old flusher.new }
     ensures begun { IfErr result CameOfFlush }

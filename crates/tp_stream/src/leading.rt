@@ -66,7 +66,7 @@ impl<
         × IfSome work.seat (λ seat. seat.hand.of ≡ Some work.ground.net.now.queue) };
 
     ghost gives = { λ work back.
-        ServedOn D.keeps J.formatted J.before (answer_failed back.5) work.flusher.now back.1.now work.streams.now.outputs.items back.2.now.outputs.items
+        ServedOn J.formatted J.before (answer_failed back.5) work.flusher.now back.1.now work.streams.now.outputs.items back.2.now.outputs.items
         × ServedAnswer J.start work.ground.pace.task (list_all (λ i. is_over i.ended i.is_blocked) back.2.now.inputs.items) back.5
         × IfOk back.5 (HaveLooked work.ground.pace.task (P.answers work.stop.now) (P.answers back.4.now))
         × ToldLater (length J.start.nodes) (L.told work.listener.now) (L.told back.3.now)
@@ -120,7 +120,7 @@ pub(crate) fn lead<
 ) -> (Going<J>, Result<Option<Ending>, StreamFault>)
     requires rested { HaveRested J.start going.turns.whose going.turns.idle }
     requires seats { All (λ seat. seat.hand.of ≡ Some ground.net.now.queue) seats.items }
-    ensures served { ServedOn D.keeps J.formatted J.before (answer_failed result.1) flusher.old flusher.new streams.old.outputs.items streams.new.outputs.items }
+    ensures served { ServedOn J.formatted J.before (answer_failed result.1) flusher.old flusher.new streams.old.outputs.items streams.new.outputs.items }
     ensures answer { ServedAnswer J.start ground.entry.pace.task (list_all (λ i. is_over i.ended i.is_blocked) streams.new.inputs.items) result.1 }
     ensures looks { IfOk result.1 (HaveLooked ground.entry.pace.task (P.answers stop.old) (P.answers stop.new)) }
     ensures told { ToldLater (length J.start.nodes) (L.told listener.old) (L.told listener.new) }

@@ -1,7 +1,7 @@
 //! Steps of all outputs and inputs of a network.
 
 ghost use Rattle.std.specs.Prelude.{◌≡◌, ◌<◌, ◌==◌, ◌-◌, ℕ, List, length, map, true, false, Ok, IfOk, IfSome, IfErr, OnErr, if◌then◌else◌};
-ghost use Rattle.tp_stream.specs.Lower.{JournalRoom, accepted_of, port_in, room_of, is_journal_full, Began, OutputValue, given_input};
+ghost use Rattle.tp_stream.specs.Lower.{AreTrue, JournalRoom, accepted_of, port_in, room_of, is_journal_full, Began, OutputValue, given_input};
 ghost use Rattle.tp_stream.specs.FailedEnds.{NamesEnd, NamesInput, NamesOutput};
 ghost use Rattle.tp_stream.specs.HandedFrom.{FedFrom, FeedsFrom, HandsNoBytes};
 ghost use Rattle.tp_stream.specs.Offered.{Offered};
@@ -140,7 +140,7 @@ fn step_settled<J: Naming, D: Disk, S: Sink>(
     outputs: &mut [Output<S>],
 ) -> Result<Pumped, StreamFault>
     ensures same { flusher.new ≡ flusher.old }
-    ensures put { D.keeps → Began J.formatted J.before flusher.old.opened
+    ensures put { AreTrue flusher.new.reads → Began J.formatted J.before flusher.old.opened
         → AllStepped J.formatted flusher.old flusher.old outputs.old outputs.new }
     ensures unfed { HandsNoBytes host.old host.new }
     ensures begun { IfErr result CameBetween }
@@ -166,7 +166,7 @@ fn step_outputs<J: Naming, D: Disk, S: Sink, R: Wait>(
     outputs: &mut [Output<S>],
 ) -> Result<Pumped, StreamFault>
     ensures same { flusher.new ≡ flusher.old }
-    ensures put { D.keeps → Began J.formatted J.before flusher.old.opened
+    ensures put { AreTrue flusher.new.reads → Began J.formatted J.before flusher.old.opened
         → AllStepped J.formatted flusher.old flusher.old outputs.old outputs.new }
     ensures unfed { HandsNoBytes host.old host.new }
     ensures begun { IfErr result CameBetween }
@@ -367,7 +367,7 @@ pub(crate) fn pump<J: Naming, D: Disk, S: Sink, I: Source, R: Wait>(
     streams: &mut Streams<S, I>,
 ) -> Result<Pumped, StreamFault>
     ensures same { flusher.new ≡ flusher.old }
-    ensures put { D.keeps → Began J.formatted J.before flusher.old.opened
+    ensures put { AreTrue flusher.new.reads → Began J.formatted J.before flusher.old.opened
         → AllStepped J.formatted flusher.old flusher.old streams.old.outputs.items streams.new.outputs.items }
     ensures begun { IfErr result CameBetween }
     ensures ends { IfErr result (NamesEnd streams.new.outputs.items (map (λ i. i.port) streams.new.inputs.items)) }

@@ -1,7 +1,7 @@
 //! What a stream does with a network and its flusher.
 
 ghost use Rattle.std.specs.Prelude.{map, ◌≡◌, ℕ, ◌≤◌, List, length, vec_len, All, Some, IfOk, IfSome, IfErr, OnOk};
-ghost use Rattle.tp_stream.specs.Lower.{list_all, OutputValue, Began, is_over, given_input};
+ghost use Rattle.tp_stream.specs.Lower.{AreTrue, list_all, OutputValue, Began, is_over, given_input};
 ghost use Rattle.tp_stream.specs.FailedEnds.{NamesEnd};
 ghost use Rattle.tp_stream.specs.Failures.{answer_failed};
 ghost use Rattle.tp_stream.specs.HandedFrom.{FedFrom};
@@ -225,7 +225,7 @@ fn go_on<J: Naming, D: Disk, S: Sink, I: Source, P: Stop, R: Wait>(
 ) -> Result<Option<Ending>, StreamFault>
     requires { HaveRested J.start going.old.turns.whose going.old.turns.idle }
     ensures same { flusher.new ≡ flusher.old }
-    ensures put { D.keeps → Began J.formatted J.before flusher.old.opened
+    ensures put { AreTrue flusher.new.reads → Began J.formatted J.before flusher.old.opened
         → AllStepped J.formatted flusher.old flusher.old streams.old.outputs.items streams.new.outputs.items }
     ensures why { IfOk result (λ ended. IfSome ended (IsWhyEnded J.start ground.entry.pace.task)) }
     ensures inputs { IfOk result (λ ended. IfSome ended (LeavesNoInput (list_all (λ i. is_over i.ended i.is_blocked) streams.new.inputs.items))) }
@@ -286,7 +286,7 @@ fn cycle<J: Naming, D: Disk, S: Sink, I: Source, L: Listener, P: Stop, R: Wait>(
     stop: &mut P,
 ) -> Result<Option<Ending>, StreamFault>
     requires { HaveRested J.start going.old.turns.whose going.old.turns.idle }
-    ensures served { ServedOn D.keeps J.formatted J.before (answer_failed result) flusher.old flusher.new streams.old.outputs.items streams.new.outputs.items }
+    ensures served { ServedOn J.formatted J.before (answer_failed result) flusher.old flusher.new streams.old.outputs.items streams.new.outputs.items }
     ensures answer { ServedAnswer J.start ground.entry.pace.task (list_all (λ i. is_over i.ended i.is_blocked) streams.new.inputs.items) result }
     ensures looks { IfOk result (LooksOnce ground.entry.pace.task going.old.turns.made going.new.turns.made (P.answers stop.old) (P.answers stop.new)) }
     ensures told { ToldLater (length J.start.nodes) (L.told listener.old) (L.told listener.new) }
@@ -325,7 +325,7 @@ fn lap<J: Naming, D: Disk, S: Sink, I: Source, L: Listener, P: Stop, R: Wait>(
     requires rested { HaveRested J.start going.old.turns.whose going.old.turns.idle }
     requires queue { IfSome seat.old (λ seat. seat.hand.of ≡ Some ground.net.now.queue) }
     ensures queue { IfSome seat.new (λ seat. seat.hand.of ≡ Some ground.entry.net.now.queue) }
-    ensures served { ServedOn D.keeps J.formatted J.before (answer_failed result) flusher.old flusher.new streams.old.outputs.items streams.new.outputs.items }
+    ensures served { ServedOn J.formatted J.before (answer_failed result) flusher.old flusher.new streams.old.outputs.items streams.new.outputs.items }
     ensures answer { ServedAnswer J.start ground.entry.pace.task (list_all (λ i. is_over i.ended i.is_blocked) streams.new.inputs.items) result }
     ensures looks { IfOk result (LooksAtMostOnce ground.entry.pace.task (P.answers stop.old) (P.answers stop.new)) }
     ensures told { ToldLater (length J.start.nodes) (L.told listener.old) (L.told listener.new) }
@@ -363,7 +363,7 @@ pub(crate) fn laps<J: Naming, D: Disk, S: Sink, I: Source, L: Listener, P: Stop,
     requires rested { HaveRested J.start going.old.turns.whose going.old.turns.idle }
     requires queue { IfSome seat.old (λ seat. seat.hand.of ≡ Some ground.net.now.queue) }
     ensures queue { IfSome seat.new (λ seat. seat.hand.of ≡ Some ground.entry.net.now.queue) }
-    ensures served { ServedOn D.keeps J.formatted J.before (answer_failed result) flusher.old flusher.new streams.old.outputs.items streams.new.outputs.items }
+    ensures served { ServedOn J.formatted J.before (answer_failed result) flusher.old flusher.new streams.old.outputs.items streams.new.outputs.items }
     ensures answer { ServedAnswer J.start ground.entry.pace.task (list_all (λ i. is_over i.ended i.is_blocked) streams.new.inputs.items) result }
     ensures told { ToldLater (length J.start.nodes) (L.told listener.old) (L.told listener.new) }
     ensures looks { IfOk result (HaveLooked ground.entry.pace.task (P.answers stop.old) (P.answers stop.new)) }
@@ -404,14 +404,14 @@ pub(crate) fn serve<
     requires rested { HaveRested J.start going.turns.whose going.turns.idle }
     requires seats { All (λ seat. seat.hand.of ≡ Some ground.net.now.queue) seats.items }
     requires team { (ground.pace.workers ≡ team_of ground.pace.task.workers (length J.start.nodes)) × (vec_len seats ≡ ground.pace.workers) }
-    ensures served { ServedOn D.keeps J.formatted J.before (answer_failed result.0) flusher.old flusher.new streams.old.outputs.items streams.new.outputs.items }
+    ensures served { ServedOn J.formatted J.before (answer_failed result.0) flusher.old flusher.new streams.old.outputs.items streams.new.outputs.items }
     ensures why { IfOk result.0 (λ ended. IsWhyEnded J.start ground.entry.pace.task ended.why) }
     ensures inputs { IfOk result.0 (λ ended. LeavesNoInput (list_all (λ i. is_over i.ended i.is_blocked) streams.new.inputs.items) ended.why) }
     ensures told { ToldLater (length J.start.nodes) (L.told listener.old) (L.told listener.new) }
     ensures looks { IfOk result.0 (λ ended. HaveLooked ground.entry.pace.task (P.answers stop.old) (P.answers stop.new) (Some ended.why)) }
     ensures stored { IfOk result.0 (λ ended. ended.next ≤ flusher.new.world.mark) }
-    ensures last { D.keeps → Began J.formatted J.before flusher.old.opened → IfOk result.0 (λ ended. ended.next ≡ length flusher.new.world.journal) }
-    ensures put { D.keeps → Began J.formatted J.before flusher.old.opened
+    ensures last { AreTrue flusher.new.reads → Began J.formatted J.before flusher.old.opened → IfOk result.0 (λ ended. ended.next ≡ length flusher.new.world.journal) }
+    ensures put { AreTrue flusher.new.reads → Began J.formatted J.before flusher.old.opened
         → IfOk result.0 (λ ended. EndsPut J.formatted flusher.new.world.journal ended.why streams.new.outputs.items) }
     ensures begun { IfErr result.0 CameBegun }
     ensures ends { IfErr result.0 (NamesEnd streams.new.outputs.items (map (λ i. i.port) streams.new.inputs.items)) }

@@ -1,7 +1,7 @@
 //! A stream, from a device to a device.
 
 ghost use Rattle.std.specs.Prelude.{◌≡◌, ◌⊎◌, ◌++◌, ◌≤◌, false, true, Ok, Err, Some, length, map, OnOk, IfOk, IfErr, IsErr};
-ghost use Rattle.tp_stream.specs.Lower.{AllByRecursion, list_all, journal_of, place_at, Began, IsSynced, IsNodeOfBytes, is_roomy, room, t414_ends, OpenedValue, next_of, verdict, IsCut, node_count, MAX_STEPS, LeavesNothingNew, IsMadeOf, History, Names, given_input, is_over, given_of, Unopened};
+ghost use Rattle.tp_stream.specs.Lower.{AreTrue, WereTrue, AllByRecursion, list_all, journal_of, place_at, Began, IsSynced, IsNodeOfBytes, is_roomy, room, t414_ends, OpenedValue, next_of, verdict, IsCut, node_count, MAX_STEPS, LeavesNothingNew, IsMadeOf, History, Names, given_input, is_over, given_of, Unopened};
 ghost use Rattle.tp_stream.specs.FailedEnds.{NamesEnd};
 ghost use Rattle.tp_stream.specs.Failures.{StreamAnswer, answer_failed, calls_failed};
 ghost use Rattle.tp_stream.specs.Fitting.{SaysFit};
@@ -111,10 +111,11 @@ fn stream_parts<
     requires topology { device.topology ≡ device.opened.value.head.topology }
     requires roomy { is_roomy device.opened.value.head.topology device.opened.value.head.areas.length ≡ true }
     requires unbroken { device.store.broken ≡ false }
-    requires read { D.keeps → verdict (D.state device.store.disk).now.bytes ≡ Ok device.opened.value }
-    requires synced { D.keeps → IsSynced (D.state device.store.disk) }
+    requires read { AreTrue (D.reads device.store.disk) → verdict (D.state device.store.disk).now.bytes ≡ Ok device.opened.value }
+    requires synced { AreTrue (D.reads device.store.disk) → IsSynced (D.state device.store.disk) }
     ensures size { D.size_of result.0 ≡ D.size_of device.store.disk }
-    ensures streamed { D.keeps → Began J.formatted J.before (D.state device.store.disk).now.bytes
+    ensures premise { WereTrue (D.reads device.store.disk) (D.reads result.0) }
+    ensures streamed { AreTrue (D.reads result.0) → Began J.formatted J.before (D.state device.store.disk).now.bytes
         → ServedInto J.formatted (next_of device.opened.value) (map (λ i. given_input i.port (I.input i.source)) streams.old.inputs.items) (accepted_opened device.opened.value) result.1 streams.old.outputs.items streams.new.outputs.items (D.state device.store.disk) (D.state result.0) }
     ensures why { IfOk result.1 (λ ended. IsAsked task ended.why) }
     ensures looks { IfOk result.1 (λ ended. HaveLooked task (P.answers stop.old) (P.answers stop.new) (Some ended.why)) }
@@ -197,32 +198,33 @@ pub fn stream<
     ghost history: { History }
     requires { task.quantum ≤ MAX_STEPS }
     ensures size { D.size_of result.0 ≡ D.size_of disk }
-    ensures streamed { D.keeps → Began history.formatted history.before (D.state disk).now.bytes
+    ensures premise { WereTrue (D.reads disk) (D.reads result.0) }
+    ensures streamed { AreTrue (D.reads result.0) → Began history.formatted history.before (D.state disk).now.bytes
         → Streamed history.formatted result.1 (D.state disk) (D.state result.0) }
-    ensures put { D.keeps → Began history.formatted history.before (D.state disk).now.bytes
+    ensures put { AreTrue (D.reads result.0) → Began history.formatted history.before (D.state disk).now.bytes
         → StreamedInto history.formatted (map (λ i. given_input i.port (I.input i.source)) streams.old.inputs.items) result.1 streams.old.outputs.items streams.new.outputs.items (D.state disk) (D.state result.0) }
-    ensures unwritten { D.keeps → StaysUnstreamed result.1 → LeavesNothingNew (D.state disk) (D.state result.0) }
-    ensures unopened { D.keeps → IsErr (verdict (D.state disk).now.bytes) → (unopened : Unopened) × (result.1 ≡ Err (StreamFault.Opening unopened)) }
-    ensures answer { D.keeps → StreamAnswer (verdict (D.state disk).now.bytes) result.1 }
+    ensures unwritten { StaysUnstreamed result.1 → LeavesNothingNew (D.state disk) (D.state result.0) }
+    ensures unopened { AreTrue (D.reads result.0) → IsErr (verdict (D.state disk).now.bytes) → (unopened : Unopened) × (result.1 ≡ Err (StreamFault.Opening unopened)) }
+    ensures answer { AreTrue (D.reads result.0) → StreamAnswer (verdict (D.state disk).now.bytes) result.1 }
     ensures failures { D.failures_of result.0 ≡ calls_failed (answer_failed result.1) (D.failures_of disk) }
-    ensures begun { D.keeps → (opened : OpenedValue) → verdict (D.state disk).now.bytes ≡ Ok opened
+    ensures begun { AreTrue (D.reads result.0) → (opened : OpenedValue) → verdict (D.state disk).now.bytes ≡ Ok opened
         → OnOk result.1 (AllMayBegin (stands_opened opened) (map given_of streams.old.outputs.items)) }
-    ensures refused { D.keeps → (opened : OpenedValue) → verdict (D.state disk).now.bytes ≡ Ok opened
+    ensures refused { AreTrue (D.reads result.0) → (opened : OpenedValue) → verdict (D.state disk).now.bytes ≡ Ok opened
         → IfErr result.1 (λ fault. OfOutput fault (IsFirstRefused (length opened.now.ports) (stands_opened opened) (map given_of streams.old.outputs.items) fault)) }
-    ensures inputs { D.keeps → (opened : OpenedValue) → verdict (D.state disk).now.bytes ≡ Ok opened
+    ensures inputs { AreTrue (D.reads result.0) → (opened : OpenedValue) → verdict (D.state disk).now.bytes ≡ Ok opened
         → OnOk result.1 (AllHaveAccepted (accepted_opened opened) (map (λ i. given_input i.port (I.input i.source)) streams.old.inputs.items)) }
-    ensures short { D.keeps → (opened : OpenedValue) → verdict (D.state disk).now.bytes ≡ Ok opened
+    ensures short { AreTrue (D.reads result.0) → (opened : OpenedValue) → verdict (D.state disk).now.bytes ≡ Ok opened
         → IfErr result.1 (λ fault. OfInput fault (AllMayBegin (stands_opened opened) (map given_of streams.old.outputs.items) × IsFirstShort (length opened.now.ports) (accepted_opened opened) (map (λ i. given_input i.port (I.input i.source)) streams.old.inputs.items) fault)) }
-    ensures kept { D.keeps → (opened : OpenedValue) → verdict (D.state disk).now.bytes ≡ Ok opened
+    ensures kept { AreTrue (D.reads result.0) → (opened : OpenedValue) → verdict (D.state disk).now.bytes ≡ Ok opened
         → (map given_of streams.new.outputs.items ≡ map given_of streams.old.outputs.items) ⊎ AllMayBegin (stands_opened opened) (map given_of streams.old.outputs.items) }
     ensures why { IfOk result.1 (λ ended. IsAsked task ended.why) }
     ensures looks { IfOk result.1 (λ ended. HaveLooked task (P.answers stop.old) (P.answers stop.new) (Some ended.why)) }
     ensures over { IfOk result.1 (λ ended. LeavesNoInput (list_all (λ i. is_over i.ended i.is_blocked) streams.new.inputs.items) ended.why) }
-    ensures quiet { D.keeps → (opened : OpenedValue) → verdict (D.state disk).now.bytes ≡ Ok opened
+    ensures quiet { AreTrue (D.reads result.0) → (opened : OpenedValue) → verdict (D.state disk).now.bytes ≡ Ok opened
         → IfOk result.1 (λ ended. LeavesNothingToDo opened.head.topology ended.why) }
-    ensures fits { D.keeps → (opened : OpenedValue) → verdict (D.state disk).now.bytes ≡ Ok opened
+    ensures fits { AreTrue (D.reads result.0) → (opened : OpenedValue) → verdict (D.state disk).now.bytes ≡ Ok opened
         → SaysFit task opened.head.topology streams.old.outputs.items (map (λ i. i.port) streams.old.inputs.items) result.1 }
-    ensures told { D.keeps → (opened : OpenedValue) → verdict (D.state disk).now.bytes ≡ Ok opened
+    ensures told { AreTrue (D.reads result.0) → (opened : OpenedValue) → verdict (D.state disk).now.bytes ≡ Ok opened
         → OnOk result.1 (ToldFirst (map (output_begins (stands_opened opened)) (map given_of streams.old.outputs.items)
         ++ map (input_begins (accepted_opened opened)) (map (λ i. given_input i.port (I.input i.source)) streams.old.inputs.items))
         (node_count opened.head.topology) (L.told listener.old) (L.told listener.new)) }

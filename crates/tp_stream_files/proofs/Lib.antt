@@ -2,6 +2,8 @@ pub mod Lower
 pub mod Fronts
 pub mod Keeping
 pub mod Known
+pub mod OwnPaths
+pub mod Paths
 pub mod Pushed
 pub mod Read
 pub mod StreamEndsSinks

@@ -3,12 +3,23 @@ use Rattle.std.specs.Prelude.{◌≡◌, ◌<◌, ◌≤◌, ℕ, ◌-◌, ◌^�
 use Rattle.std.specs.Io.KnownBytes.{Appends, Keeps}
 use Rattle.tp_stream_files.specs.Said.{AppendsFront}
 use Rattle.tp_stream_files.specs.Told.{EndTold, Wrote, Synced}
-use Rattle.tp_stream_files.specs.Trace.{size_after, read, GrewAlike, bytes_given, says_end, says_failed}
+use Rattle.tp_stream_files.specs.Trace.{size_after, read, GrewAlike, bytes_given, path_opened, says_end, says_failed}
 use Rattle.tp_stream_files.specs.declared.sinks.AnySink.{AnySink}
 use Rattle.tp_stream_files.specs.declared.sinks.AnySink.TheVariants.{File, Out, Nothing}
 use Rattle.tp_stream_files.specs.declared.sources.AnySource.{AnySource}
 use Rattle.tp_stream_files.specs.declared.sources.AnySource.TheVariants.{File as FromFile, In}
 use Rattle.tp_stream_files.specs.declared.pipes.Pipe.{Pipe}
+
+-- the path of the file that takes an output, if a file does
+abbrev pub path_to : {F O : Type 0} → (calls : F → List EndTold) → AnySink F O → Option (List ℕ)
+path_to calls (File sink) = path_opened (calls sink.file)
+path_to calls (Out out) = None
+path_to calls Nothing = None
+
+-- the path of the file that an input comes from, if it comes from a file
+abbrev pub path_from : {F I : Type 0} → (calls : F → List EndTold) → AnySource F I → Option (List ℕ)
+path_from calls (FromFile file) = path_opened (calls file)
+path_from calls (In pipe) = None
 
 -- up to which position it can be put
 abbrev pub reach_of : {F O : Type 0} → AnySink F O → ℕ

@@ -29,6 +29,14 @@ EndsThere ended input = (at : ℕ) (all : List ℕ) → ended ≡ Some at → in
 abbrev pub is_over : Option ℕ → Bool → Bool
 is_over ended blocked = is_some ended || blocked
 
+-- An input: its port, and the path of the file that it comes from, if it comes from a file.
+pub record NamedInput : Type 0 where
+  pub port : ℕ
+  pub path : Option (List ℕ)
+
+abbrev pub named_input : ℕ → Option (List ℕ) → NamedInput
+named_input port path = record { port = port; path = path }
+
 -- An input: its port, and all of its bytes, if they are known.
 pub record GivenInput : Type 0 where
   pub port : ℕ

@@ -4,7 +4,7 @@ use Rattle.tp_stream_files.specs.Lower.{ErrorKind, BrokenPipe, ConnectionReset, 
 use Rattle.tp_stream_files.specs.Folders.{HasSynced}
 use Rattle.tp_stream_files.specs.Told.{EndTold, Measured, Synced}
 
--- the calls on a file when it is opened: its length is asked for, and it is synced
+-- the calls on a file once it is opened: its length is asked for, and it is synced
 abbrev pub begin_calls : ℕ → List EndTold
 begin_calls size = Measured size ∷ Synced true ∷ []
 

@@ -1,5 +1,5 @@
 -- What a list of calls comes to.
-use Rattle.std.specs.Prelude.{◌≡◌, ℕ, ◌+◌, ◌-◌, ◌^◌, Bool, true, false, ◌||◌, List, [], ◌∷◌, ◌++◌, length, min, max, take, Result, Ok, Err}
+use Rattle.std.specs.Prelude.{◌≡◌, ℕ, ◌+◌, ◌-◌, ◌^◌, Bool, true, false, ◌||◌, List, [], ◌∷◌, ◌++◌, length, min, max, take, Option, Some, None, Result, Ok, Err}
 use Rattle.tp_stream_files.specs.Told.{EndTold, Opened, SyncedFolder, Measured, MeasureFailed, HasRead, ReadFailed, Wrote, Synced, Gave, GiveFailed}
 
 -- how many bytes a file has after a call, if it had `size`
@@ -15,6 +15,12 @@ size_after size (ReadFailed at) = size
 size_after size (Synced ok) = size
 size_after size (Gave bytes) = size
 size_after size GiveFailed = size
+
+-- the path at which a file was opened, by its first call
+abbrev pub path_opened : List EndTold → Option (List ℕ)
+path_opened [] = None
+path_opened (Opened how path ok ∷ calls) = Some path
+path_opened (_ ∷ calls) = None
 
 -- the answer to a measure
 abbrev pub measured : {E : Type 0} → Result ℕ E → EndTold

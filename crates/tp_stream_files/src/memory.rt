@@ -1,6 +1,6 @@
 //! A sink in memory, for tests. One of its calls may fail.
 
-ghost use Rattle.std.specs.Prelude.{◌≡◌, ◌≤◌, [], ◌++◌, length, take, true, is_ok, None, Some, IfErr, OnOk, OnErr};
+ghost use Rattle.std.specs.Prelude.{◌≡◌, ◌≤◌, ℕ, List, [], ◌++◌, length, take, true, is_ok, Option, None, Some, IfErr, OnOk, OnErr};
 ghost use Rattle.tp_stream_files.specs.Failing.{calls_behind, goes_on};
 ghost use Rattle.tp_stream_files.specs.Held.{HasLength, HasPut, HasReach, IsSafe, KeepsBytes, KeepsFront, Reaches};
 
@@ -105,6 +105,7 @@ impl Sink for MemSink {
         requires { Reaches at (Some (record { bytes = self.old.bytes.items; safe = self.old.safe })) }
         ensures put { OnOk result (HasPut at bytes.now (Some (record { bytes = self.old.bytes.items; safe = self.old.safe })) (Some (record { bytes = self.new.bytes.items; safe = self.new.safe }))) }
         ensures front { KeepsFront at (Some (record { bytes = self.old.bytes.items; safe = self.old.safe })) (Some (record { bytes = self.new.bytes.items; safe = self.new.safe })) }
+        ensures path { let none : Option (List ℕ) = None in none ≡ none }
         ensures goes { OnOk result (goes_on self.old.calls ≡ true) }
         ensures fault { IfErr result (λ fault. fault ≡ SinkFault.Failed) }
         ensures left { self.new.calls ≡ calls_behind self.old.calls }
@@ -119,6 +120,7 @@ impl Sink for MemSink {
     fn settle(&mut self) -> Result<(), SinkFault>
         ensures safe { OnOk result (IsSafe (Some (record { bytes = self.new.bytes.items; safe = self.new.safe }))) }
         ensures bytes { KeepsBytes (Some (record { bytes = self.old.bytes.items; safe = self.old.safe })) (Some (record { bytes = self.new.bytes.items; safe = self.new.safe })) }
+        ensures path { let none : Option (List ℕ) = None in none ≡ none }
         ensures goes { is_ok result ≡ goes_on self.old.calls }
         ensures fault { IfErr result (λ fault. fault ≡ SinkFault.Failed) }
         ensures left { self.new.calls ≡ calls_behind self.old.calls }

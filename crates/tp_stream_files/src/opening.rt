@@ -1,7 +1,9 @@
 //! How the files of outputs and inputs are opened.
 
 ghost use Rattle.std.specs.Prelude.{◌≡◌, ◌⊎◌, ◌++◌, ◌∷◌, [], true, map, is_ok, string_bytes, IfErr, IfOk, OnOk};
-ghost use Rattle.tp_stream_files.specs.Named.{inputs_named, is_standard, output_away, output_to, outputs_named};
+ghost use Rattle.tp_stream_files.specs.Any.{path_from, path_to};
+ghost use Rattle.tp_stream_files.specs.Inputs.{named_input};
+ghost use Rattle.tp_stream_files.specs.Named.{HaveOwnPaths, fresh_output, have_in, input_from, inputs_named, is_standard, output_away, output_to, outputs_named};
 ghost use Rattle.tp_stream_files.specs.Opened.{IsSinkOf, IsSourceOf, IsUnread};
 ghost use Rattle.tp_stream_files.specs.Opening.{KeepsFiles, NamesPort, to_read, to_write};
 ghost use Rattle.tp_stream_files.specs.Sinks.{SyncsFolder, begin_calls};
@@ -46,7 +48,7 @@ fn open_to_write<S: EndFiles<File = F>, F: EndFile + Drop>(
     end: &PortFile,
 ) -> Result<F, EndFault>
     ensures noted { S.calls files.new ≡ S.calls files.old ++ Opened to_write (string_bytes end.now.path) (is_ok result) ∷ [] }
-    ensures fresh { IfOk result (λ file. F.calls file ≡ []) }
+    ensures fresh { IfOk result (λ file. F.calls file ≡ Opened to_write (string_bytes end.now.path) true ∷ []) }
     ensures fault { IfErr result (λ fault. fault ≡ EndFault.DeviceFailed end.now.port) }
 {
     match file_at(files, end.path.as_str()) {
@@ -80,7 +82,7 @@ fn file_sink<S: EndFiles<File = F> + Looks, F: EndFile + Drop>(
     taken: &mut Taken,
 ) -> Result<FileSink<F>, EndFault>
     ensures kept { KeepsFiles (S.calls files.old) (S.calls files.new) }
-    ensures calls { IfOk result (λ sink. F.calls sink.file ≡ begin_calls sink.size) }
+    ensures calls { IfOk result (λ sink. F.calls sink.file ≡ Opened to_write (string_bytes end.now.path) true ∷ begin_calls sink.size) }
     ensures folder { IfOk result (λ sink. SyncsFolder sink.size (string_bytes end.now.path) (S.calls files.old ++ Opened to_write (string_bytes end.now.path) true ∷ []) (S.calls files.new)) }
     ensures fault { IfErr result (NamesPort end.now.port) }
 {
@@ -133,7 +135,7 @@ fn open_to_read<S: EndFiles<File = F>, F: EndFile + Drop>(
     end: &PortFile,
 ) -> Result<F, EndFault>
     ensures noted { S.calls files.new ≡ S.calls files.old ++ Opened to_read (string_bytes end.now.path) (is_ok result) ∷ [] }
-    ensures fresh { IfOk result (λ file. F.calls file ≡ []) }
+    ensures fresh { IfOk result (λ file. F.calls file ≡ Opened to_read (string_bytes end.now.path) true ∷ []) }
     ensures fault { IfErr result (λ fault. fault ≡ EndFault.ReadFailed end.now.port) }
 {
     let mut how = OpenOptions::new();
@@ -151,7 +153,7 @@ fn file_source<S: EndFiles<File = F>, F: EndFile + Drop>(
     taken: &mut Taken,
 ) -> Result<F, EndFault>
     ensures kept { KeepsFiles (S.calls files.old) (S.calls files.new) }
-    ensures calls { IfOk result (λ file. (F.calls file ≡ []) × (S.calls files.new ≡ S.calls files.old ++ Opened to_read (string_bytes end.now.path) true ∷ [])) }
+    ensures calls { IfOk result (λ file. (F.calls file ≡ Opened to_read (string_bytes end.now.path) true ∷ []) × (S.calls files.new ≡ S.calls files.old ++ Opened to_read (string_bytes end.now.path) true ∷ [])) }
     ensures fault { IfErr result (NamesPort end.now.port) }
 {
     let file = open_to_read(files, end)?;
@@ -207,7 +209,7 @@ fn add_output<'a, F: EndFile + Drop, O: Write>(
     sink: AnySink<'a, F, O>,
     outputs: &mut Vec<Output<AnySink<'a, F, O>>>,
 ) -> Result<(), EndFault>
-    ensures outputs { OnOk result (outputs.new.items ≡ outputs.old.items ++ output_to ends.now.haves.items end.now ∷ []) }
+    ensures outputs { OnOk result (outputs.new.items ≡ outputs.old.items ++ fresh_output end.now.port (have_in ends.now.haves.items end.now.port) (path_to F.calls sink.entry) ∷ []) }
     ensures fault { IfErr result (λ fault. fault ≡ EndFault.Memory) }
 {
     let have = ends.have_of(end.port);
@@ -312,7 +314,8 @@ fn add_input<'a, F: EndFile + Drop, I: Feed>(
     source: AnySource<'a, F, I>,
     inputs: &mut Vec<Input<AnySource<'a, F, I>>>,
 ) -> Result<(), EndFault>
-    ensures ports { OnOk result (map (λ i. i.port) inputs.new.items ≡ map (λ i. i.port) inputs.old.items ++ port ∷ []) }
+    ensures inputs { OnOk result (map (λ i. named_input i.port (path_from F.calls i.source)) inputs.new.items
+        ≡ map (λ i. named_input i.port (path_from F.calls i.source)) inputs.old.items ++ named_input port (path_from F.calls source.entry) ∷ []) }
     ensures fault { IfErr result (λ fault. fault ≡ EndFault.Memory) }
 {
     match inputs.push(Input::new(port, source)) {
@@ -331,7 +334,8 @@ fn push_input<'a, S: EndFiles<File = F> + Looks, F: EndFile + Drop, I: Feed>(
     inputs: &mut Vec<Input<AnySource<'a, F, I>>>,
 ) -> Result<(), EndFault>
     ensures kept { KeepsFiles (S.calls files.old) (S.calls files.new) }
-    ensures ports { OnOk result (map (λ i. i.port) inputs.new.items ≡ map (λ i. i.port) inputs.old.items ++ end.now.port ∷ []) }
+    ensures inputs { OnOk result (map (λ i. named_input i.port (path_from F.calls i.source)) inputs.new.items
+        ≡ map (λ i. named_input i.port (path_from F.calls i.source)) inputs.old.items ++ input_from end.now ∷ []) }
     ensures fault { IfErr result (NamesPort end.now.port) }
 {
     let source = source_at(files, alloc, end, taken, feed)?;
@@ -348,7 +352,8 @@ fn push_inputs<'a, S: EndFiles<File = F> + Looks, F: EndFile + Drop, I: Feed>(
     inputs: &mut Vec<Input<AnySource<'a, F, I>>>,
 ) -> Result<(), EndFault>
     ensures kept { KeepsFiles (S.calls files.old) (S.calls files.new) }
-    ensures ports { OnOk result (map (λ i. i.port) inputs.new.items ≡ map (λ i. i.port) inputs.old.items ++ inputs_named ends.now) }
+    ensures inputs { OnOk result (map (λ i. named_input i.port (path_from F.calls i.source)) inputs.new.items
+        ≡ map (λ i. named_input i.port (path_from F.calls i.source)) inputs.old.items ++ inputs_named ends.now) }
 {
     for end in &ends.ins {
         push_input(files, alloc, end, taken, feed, inputs)?;
@@ -365,7 +370,7 @@ fn inputs_of<'a, S: EndFiles<File = F> + Looks, F: EndFile + Drop, I: Feed>(
     feed: &'a mut I,
 ) -> Result<Vec<Input<AnySource<'a, F, I>>>, EndFault>
     ensures kept { KeepsFiles (S.calls files.old) (S.calls files.new) }
-    ensures ports { IfOk result (λ inputs. map (λ i. i.port) inputs.items ≡ inputs_named ends.now) }
+    ensures inputs { IfOk result (λ inputs. map (λ i. named_input i.port (path_from F.calls i.source)) inputs.items ≡ inputs_named ends.now) }
 {
     let mut inputs = Vec::new(alloc);
     match push_inputs(files, alloc, ends, taken, &mut Some(feed), &mut inputs) {
@@ -385,7 +390,7 @@ fn open_beside<'a, S: EndFiles<File = F> + Looks, F: EndFile + Drop, I: Feed, O:
 ) -> Result<Streams<AnySink<'a, F, O>, AnySource<'a, F, I>>, EndFault>
     ensures kept { KeepsFiles (S.calls files.old) (S.calls files.new) }
     ensures outputs { IfOk result (λ streams. streams.outputs.items ≡ outputs_named ends.now) }
-    ensures inputs { IfOk result (λ streams. map (λ i. i.port) streams.inputs.items ≡ inputs_named ends.now) }
+    ensures inputs { IfOk result (λ streams. map (λ i. named_input i.port (path_from F.calls i.source)) streams.inputs.items ≡ inputs_named ends.now) }
 {
     let inputs = inputs_of(files, alloc, ends, taken, feed)?;
     let outputs = outputs_of(files, alloc, ends, taken, out)?;
@@ -406,7 +411,8 @@ pub fn open_ends_over<'a, S: EndFiles<File = F> + Looks, F: EndFile + Drop, I: F
 ) -> Result<Streams<AnySink<'a, F, O>, AnySource<'a, F, I>>, EndFault>
     ensures kept { KeepsFiles (S.calls files.old) (S.calls files.new) }
     ensures outputs { IfOk result (λ streams. streams.outputs.items ≡ outputs_named ends.now) }
-    ensures inputs { IfOk result (λ streams. map (λ i. i.port) streams.inputs.items ≡ inputs_named ends.now) }
+    ensures inputs { IfOk result (λ streams. map (λ i. named_input i.port (path_from F.calls i.source)) streams.inputs.items ≡ inputs_named ends.now) }
+    ensures own { OnOk result (HaveOwnPaths device.now ends.now.outs.items ends.now.ins.items) }
 {
     if let Some(port) = same_file(files, device, ends) {
         return Err(EndFault::SameFile(port));
@@ -431,7 +437,8 @@ pub fn open_ends<
     out: &'a mut O,
 ) -> Result<Streams<AnySink<'a, OutsideFile<F>, O>, AnySource<'a, OutsideFile<F>, I>>, EndFault>
     ensures outputs { IfOk result (λ streams. streams.outputs.items ≡ outputs_named ends.now) }
-    ensures inputs { IfOk result (λ streams. map (λ i. i.port) streams.inputs.items ≡ inputs_named ends.now) }
+    ensures inputs { IfOk result (λ streams. map (λ i. named_input i.port (path_from (λ file. file.trace.told) i.source)) streams.inputs.items ≡ inputs_named ends.now) }
+    ensures own { OnOk result (HaveOwnPaths device.now ends.now.outs.items ends.now.ins.items) }
 {
     open_ends_over(&mut Outside::new(rt), rt.alloc(), device, ends, feed, out)
 }

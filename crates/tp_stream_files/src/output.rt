@@ -24,7 +24,7 @@ impl<S: Sink> Model for Output<S> {
 
     ghost Value = { OutputValue };
 
-    ghost view = { λ o. record { port = o.port; have = o.have; confirmed = o.confirmed; next = o.next; held = S.held o.sink } };
+    ghost view = { λ o. record { port = o.port; have = o.have; path = S.path o.sink; confirmed = o.confirmed; next = o.next; held = S.held o.sink } };
 
     ghost invariant = { λ o. (o.confirmed ≤ o.next) × Reaches o.next (S.held o.sink) };
 }
@@ -36,6 +36,7 @@ fn put_safe<S: Sink>(sink: &mut S, at: u64, bytes: &[u8]) -> Result<(), SinkFaul
     ensures put { OnOk result (HasPut at bytes.now (S.held sink.old) (S.held sink.new)) }
     ensures reach { OnOk result (Reaches (at + length bytes.now) (S.held sink.new)) }
     ensures front { KeepsFront at (S.held sink.old) (S.held sink.new) }
+    ensures path { S.path sink.new ≡ S.path sink.old }
     ensures none { length bytes.now ≡ 0 → (is_ok result ≡ true) × (sink.new ≡ sink.old) }
 {
     if bytes.is_empty() {
@@ -63,7 +64,7 @@ impl<S: Sink> Output<S> {
     /// Makes the output of the port `port` into a sink. `have` is the position up to which the sink's reader says that it has the output; `None`
     /// stands for that up to which it is confirmed.
     pub fn new(port: u8, have: Option<u64>, sink: S) -> Output<S>
-        ensures { result ≡ record { port = port; have = have; confirmed = 0; next = 0; held = S.held sink } }
+        ensures { result ≡ record { port = port; have = have; path = S.path sink; confirmed = 0; next = 0; held = S.held sink } }
     {
         Output {
             port,

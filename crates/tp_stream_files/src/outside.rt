@@ -3,8 +3,9 @@
 //! Only reading shows that each method here makes the one call that it notes, and makes an interrupted read again: no contract can say what a file
 //! takes.
 
-ghost use Rattle.std.specs.Prelude.{◌≡◌, ◌≢◌, ◌≤◌, [], ◌∷◌, ◌++◌, length, IfErr, IfOk};
+ghost use Rattle.std.specs.Prelude.{◌≡◌, ◌≢◌, ◌≤◌, [], ◌∷◌, ◌++◌, true, length, IfErr, IfOk};
 ghost use Rattle.std.specs.IoError.{error_kind};
+ghost use Rattle.tp_stream_files.specs.Told.{Opened};
 
 use crate::same::{FileNumbers, numbers_at_path, numbers_in};
 use crate::standard::{StandardStream, StandardStreams, regular_behind};
@@ -42,13 +43,13 @@ impl<'r, R> Outside<'r, R> {
 }
 
 impl<F: Drop> OutsideFile<F> {
-    /// Takes an open file, with no calls made on it.
-    pub(crate) fn new(file: F) -> OutsideFile<F>
-        ensures { result.trace.told ≡ [] }
+    /// Takes a file that was opened at a path, with no other calls made on it.
+    pub(crate) fn new(how: &OpenOptions, path: &str, file: F) -> OutsideFile<F>
+        ensures { result.trace.told ≡ Opened how.now path.now true ∷ [] }
     {
         OutsideFile {
             file,
-            trace: Trace::new(),
+            trace: Trace::new().opened(how, path, true),
         }
     }
 }
@@ -130,7 +131,7 @@ impl<'r, R: Files<File = F>, F: FileExt + OpenFile + Drop> EndFiles for Outside<
     fn open(&mut self, how: &OpenOptions, path: &str) -> io::Result<OutsideFile<F>> {
         let done = how.open(self.rt, path);
         self.trace = self.trace.opened(how, path, done.is_ok());
-        Ok(OutsideFile::new(done?))
+        Ok(OutsideFile::new(how, path, done?))
     }
 
     fn sync_folder(&mut self, folder: &str) -> io::Result<()> {

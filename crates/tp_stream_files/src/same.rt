@@ -1,6 +1,7 @@
 //! Whether two names are of one file.
 
-ghost use Rattle.std.specs.Prelude.{◌≡◌, ◌↔◌, [], ◌++◌, false, true, Some, Contains, IfErr, IfNone, IfSome, OnOk, option_to_list};
+ghost use Rattle.std.specs.Prelude.{◌≡◌, ◌↔◌, [], ◌++◌, false, true, Some, All, Contains, IfErr, IfNone, IfSome, OnOk, option_to_list, string_bytes};
+ghost use Rattle.tp_stream_files.specs.Named.{HaveOnePath, HaveOwnPaths, is_standard};
 
 use crate::ends::{EndFault, Ends, PortFile};
 use crate::standard::{StandardStream, StandardStreams, regular_behind};
@@ -123,7 +124,9 @@ fn numbers_of<L: Looks>(looks: &L, end: &PortFile, stream: StandardStream) -> Op
 }
 
 /// Whether one path was typed for two ports, and isn't standard input or output.
-fn have_one_path(one: &PortFile, other: &PortFile) -> bool {
+fn have_one_path(one: &PortFile, other: &PortFile) -> bool
+    ensures { result ≡ false → HaveOnePath one.now other.now → ⊥ }
+{
     !one.is_standard() && one.path.as_str() == other.path.as_str()
 }
 
@@ -135,7 +138,9 @@ fn goes_into<L: Looks>(
     others: &[PortFile],
     stream: StandardStream,
     are_outputs: bool,
-) -> bool {
+) -> bool
+    ensures { result ≡ false → All (λ other. HaveOnePath end.now other → ⊥) others.now }
+{
     let numbers = numbers_of(looks, end, StandardStream::Out);
     for other in others {
         let is_told = are_outputs && end.is_standard() && other.is_standard();
@@ -149,7 +154,9 @@ fn goes_into<L: Looks>(
 }
 
 /// Whether an output goes into the file of the device or of standard error.
-fn goes_elsewhere<L: Looks>(looks: &L, end: &PortFile, device: &str) -> bool {
+fn goes_elsewhere<L: Looks>(looks: &L, end: &PortFile, device: &str) -> bool
+    ensures { result ≡ false → is_standard end.now ≡ false → string_bytes end.now.path ≡ device.now → ⊥ }
+{
     let numbers = numbers_of(looks, end, StandardStream::Out);
     let is_device = are_one(numbers, looks.numbers_at(device));
     let is_error = are_one(numbers, looks.numbers_behind(StandardStream::Error));
@@ -159,12 +166,11 @@ fn goes_elsewhere<L: Looks>(looks: &L, end: &PortFile, device: &str) -> bool {
 
 /// Gives a port whose output goes into the file of the device, of an input, of another port's output or of standard error. It finds what can be seen
 /// before any file is made; else `None`.
-pub(crate) fn same_file<L: Looks>(looks: &L, device: &str, ends: &Ends) -> Option<u8> {
+pub(crate) fn same_file<L: Looks>(looks: &L, device: &str, ends: &Ends) -> Option<u8>
+    ensures { IfNone result (HaveOwnPaths device.now ends.now.outs.items ends.now.ins.items) }
+{
     for (number, end) in ends.outs.iter().enumerate() {
-        let before = match ends.outs.get(..number) {
-            Some(before) => before,
-            None => &[],
-        };
+        let before = &ends.outs[..number];
         if goes_elsewhere(looks, end, device)
             || goes_into(looks, end, before, StandardStream::Out, true)
             || goes_into(looks, end, &ends.ins, StandardStream::In, false)

@@ -1,6 +1,6 @@
 //! What takes a port's output.
 
-ghost use Rattle.std.specs.Prelude.{Option, None, OnOk};
+ghost use Rattle.std.specs.Prelude.{◌≡◌, ℕ, List, Option, None, OnOk};
 ghost use Rattle.tp_stream_files.specs.Held.{HeldBytes, HasLength, HasPut, HasReach, IsSafe, KeepsBytes, KeepsFront, Reaches};
 
 /// Why bytes couldn't be put, or couldn't be made safe.
@@ -17,6 +17,9 @@ pub trait Sink {
     /// What the sink holds, if that is known.
     ghost held: { Self → Option HeldBytes } = { λ _. None };
 
+    /// The path at which its file was opened, if it is a file's.
+    ghost path: { Self → Option (List ℕ) } = { λ _. None };
+
     /// Up to which position it can be put: its bytes before that exist, and are safe.
     fn reach(&self) -> u64
         ensures there { Reaches result (held self.now) }
@@ -30,10 +33,12 @@ pub trait Sink {
     fn put(&mut self, at: u64, bytes: &[u8]) -> Result<(), SinkFault>
         requires { Reaches at (held self.old) }
         ensures put { OnOk result (HasPut at bytes.now (held self.old) (held self.new)) }
-        ensures front { KeepsFront at (held self.old) (held self.new) };
+        ensures front { KeepsFront at (held self.old) (held self.new) }
+        ensures path { path self.new ≡ path self.old };
 
     /// Makes all that was put safe, so that a crash leaves it.
     fn settle(&mut self) -> Result<(), SinkFault>
         ensures safe { OnOk result (IsSafe (held self.new)) }
-        ensures bytes { KeepsBytes (held self.old) (held self.new) };
+        ensures bytes { KeepsBytes (held self.old) (held self.new) }
+        ensures path { path self.new ≡ path self.old };
 }

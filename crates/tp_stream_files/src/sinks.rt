@@ -58,7 +58,7 @@ fn begin_file<F: EndFile>(file: &mut F) -> io::Result<u64>
 /// Opens the file at that path as it is, or makes an empty one.
 pub(crate) fn file_at<S: EndFiles>(files: &mut S, path: &str) -> io::Result<S::File>
     ensures noted { S.calls files.new ≡ S.calls files.old ++ Opened to_write path.now (is_ok result) ∷ [] }
-    ensures fresh { IfOk result (λ file. S.File.calls file ≡ []) }
+    ensures fresh { IfOk result (λ file. S.File.calls file ≡ Opened to_write path.now true ∷ []) }
 {
     let mut how = OpenOptions::new();
     files.open(how.read(true).write(true).create(true), path)
@@ -129,7 +129,7 @@ impl<F: EndFile + Drop> FileSink<F> {
     /// Opens the file at that path as it is, or makes an empty one.
     pub fn open_in<S: EndFiles<File = F>>(files: &mut S, path: &str) -> io::Result<FileSink<F>>
         ensures kept { KeepsFiles (S.calls files.old) (S.calls files.new) }
-        ensures calls { IfOk result (λ sink. F.calls sink.file ≡ begin_calls sink.size) }
+        ensures calls { IfOk result (λ sink. F.calls sink.file ≡ Opened to_write path.now true ∷ begin_calls sink.size) }
         ensures folder { IfOk result (λ sink. SyncsFolder sink.size path.now (S.calls files.old ++ Opened to_write path.now true ∷ []) (S.calls files.new)) }
     {
         let file = file_at(files, path)?;
@@ -165,9 +165,11 @@ impl<F: EndFile + Drop> FileSink<F> {
 }
 
 impl<'a, F: EndFile + Drop, O: Write> Sink for AnySink<'a, F, O> {
-    ghost use Rattle.tp_stream_files.specs.Any.{WasPut, WasSettled, length_of, reach_of};
+    ghost use Rattle.tp_stream_files.specs.Any.{WasPut, WasSettled, length_of, path_to, reach_of};
 
     ghost held = { λ _. None };
+
+    ghost path = { λ sink. path_to F.calls sink };
 
     fn reach(&self) -> u64
         ensures there { Reaches result None }
@@ -190,9 +192,11 @@ impl<'a, F: EndFile + Drop, O: Write> Sink for AnySink<'a, F, O> {
         }
     }
 
+    #[tactic(auto, using(crate::proofs::Paths::wrote_there))]
     fn put(&mut self, at: u64, bytes: &[u8]) -> Result<(), SinkFault>
         ensures put { OnOk result (HasPut at bytes.now None None) }
         ensures front { KeepsFront at None None }
+        ensures path { path_to F.calls self.new ≡ path_to F.calls self.old }
         ensures asked { WasPut F.calls O.contents at bytes.now (is_ok result) self.old self.new }
     {
         match self {
@@ -202,9 +206,11 @@ impl<'a, F: EndFile + Drop, O: Write> Sink for AnySink<'a, F, O> {
         }
     }
 
+    #[tactic(auto, using(crate::proofs::Paths::synced_there))]
     fn settle(&mut self) -> Result<(), SinkFault>
         ensures safe { OnOk result (IsSafe None) }
         ensures bytes { KeepsBytes None None }
+        ensures path { path_to F.calls self.new ≡ path_to F.calls self.old }
         ensures asked { WasSettled F.calls O.contents (is_ok result) self.old self.new }
     {
         match self {

@@ -1,6 +1,6 @@
 //! The system's calls on the files of streams.
 
-ghost use Rattle.std.specs.Prelude.{◌≡◌, ◌≢◌, ◌≤◌, List, [], ◌∷◌, ◌++◌, length, is_ok, IfErr, IfOk};
+ghost use Rattle.std.specs.Prelude.{◌≡◌, ◌≢◌, ◌≤◌, List, [], ◌∷◌, ◌++◌, true, length, is_ok, IfErr, IfOk};
 ghost use Rattle.std.specs.IoError.{error_kind};
 ghost use Rattle.tp_stream_files.specs.Told.{EndTold, Opened, SyncedFolder, Synced, Wrote};
 ghost use Rattle.tp_stream_files.specs.Trace.{measured, read};
@@ -13,7 +13,7 @@ use std::io::ErrorKind;
 
 /// An open file for an output or input. No call on it truncates the file.
 pub trait EndFile {
-    /// The calls that were made on it, the oldest first.
+    /// The calls that were made on it, the oldest first. The first one opened it.
     ghost calls: { Self → List EndTold };
 
     /// How many bytes it has.
@@ -49,10 +49,10 @@ pub trait EndFiles {
     /// The calls that were made on it, the oldest first.
     ghost calls: { Self → List EndTold };
 
-    /// Opens the file at a path, with no calls made on it yet.
+    /// Opens the file at a path. No other call was made on it yet.
     fn open(&mut self, how: &OpenOptions, path: &str) -> io::Result<Self::File>
         ensures noted { calls self.new ≡ calls self.old ++ Opened how.now path.now (is_ok result) ∷ [] }
-        ensures fresh { IfOk result (λ file. Self.File.calls file ≡ []) };
+        ensures fresh { IfOk result (λ file. Self.File.calls file ≡ Opened how.now path.now true ∷ []) };
 
     /// Syncs a folder, so that a name made in it lasts.
     fn sync_folder(&mut self, folder: &str) -> io::Result<()>

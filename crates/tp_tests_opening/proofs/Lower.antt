@@ -51,6 +51,7 @@ pub use Rattle.tp_turn.proofs.Adding.{others_stay}
 pub use Rattle.tp_turn.proofs.Hosting.{nodes_stay}
 pub use Rattle.tp_turn.specs.Hosted.{HostAdded}
 pub use Rattle.tp_turn.specs.Moments.{Added, IsNodeOf}
+pub use Rattle.tp_disk.specs.Reads.{AreTrue}
 pub use Rattle.tp_area.specs.Other.{OtherIsClosed}
 pub use Rattle.tp_shared.proofs.Hosting.{hosted_input}
 pub use Rattle.tp_shared.specs.BookActs.{HostActed}

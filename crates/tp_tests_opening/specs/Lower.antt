@@ -19,4 +19,5 @@ pub use Rattle.tp_book.specs.Opened.{IsWellOpen, now_of}
 pub use Rattle.tp_book.specs.PortParts.{port_made}
 pub use Rattle.tp_replay.specs.Flat.{CanCount}
 pub use Rattle.tp_turn.specs.Moments.{IsNodeOf}
+pub use Rattle.tp_disk.specs.Reads.{AreTrue}
 pub use Rattle.tp_area.specs.Other.{OtherIsClosed}

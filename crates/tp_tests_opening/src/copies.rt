@@ -1,7 +1,7 @@
 //! What a checkpoint puts into the other area, and the calls that put it there and switch to it; and steps on a device.
 
 ghost use Rattle.std.specs.Prelude.{◌≡◌, ◌<◌, ◌&&◌, true, length, OnOk};
-ghost use Rattle.tp_tests_opening.specs.Lower.{is_some, is_line_of, is_port_of, on_line, are_lines, has_record, port_made, OtherIsClosed};
+ghost use Rattle.tp_tests_opening.specs.Lower.{AreTrue, is_some, is_line_of, is_port_of, on_line, are_lines, has_record, port_made, OtherIsClosed};
 ghost use Rattle.tp_tests_opening.specs.TailOf.{AreTailOf};
 
 use crate::checkpoints::{Cut, Step};
@@ -120,8 +120,8 @@ fn put_image<D: Disk>(
     topology: &Topology,
     image: &[u8],
 ) -> Result<(), StoreFault>
-    requires closed { D.keeps → OtherIsClosed store.old.place (D.state store.old.disk) }
-    ensures closed { D.keeps → OnOk result (OtherIsClosed store.new.place (D.state store.new.disk)) }
+    requires closed { AreTrue (D.reads store.old.disk) → OtherIsClosed store.old.place (D.state store.old.disk) }
+    ensures closed { AreTrue (D.reads store.new.disk) → OnOk result (OtherIsClosed store.new.place (D.state store.new.disk)) }
 {
     if topology.pages().is_empty() || image.len() != IMAGE_HEAD_BYTES + PAGES * PAGE_BYTES {
         return Err(StoreFault::AreaFull);
@@ -144,7 +144,7 @@ fn put_rest<D: Disk>(
     lines: &Lines,
     tail: &[Numbered],
 ) -> Result<(), StoreFault>
-    requires closed { D.keeps → OtherIsClosed store.old.place (D.state store.old.disk) }
+    requires closed { AreTrue (D.reads store.old.disk) → OtherIsClosed store.old.place (D.state store.old.disk) }
     ensures filled { OnOk result (is_some store.new.filled ≡ true) }
 {
     let ports = held.net.ports.as_slice();

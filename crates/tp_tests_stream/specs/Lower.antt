@@ -1,5 +1,3 @@
 -- What definitions and contracts here name of the crates below.
-pub use Rattle.tp_model.specs.Disk.{Read, Sync, Write, done}
-pub use Rattle.tp_model.specs.DiskHistory.{Fails, MomentPassed, unknown}
 pub use Rattle.tp_model.specs.declared.limits.TheConstants.{MAX_STEPS}
 pub use Rattle.tp_work.specs.declared.start.TheConstants.{MAX_WORKERS}

@@ -1,11 +1,9 @@
 //! A device that another process writes while it is read.
 
-ghost use Rattle.std.specs.Prelude.{◌≡◌, ◌+◌, ◌≤◌, length, take, drop, OnOk, OnErr};
-ghost use Rattle.tp_tests_stream.specs.Lower.{Write, Sync, Read, done, MomentPassed, Fails, unknown};
-ghost use Rattle.tp_tests_stream.specs.Changing.{changing_keeps, no_changing};
+ghost use Rattle.tp_disk.specs.Noted.{file_reads, file_state};
 
 use std::alloc::{AllocError, Global};
-use tp_disk::{DeviceFailed, RawDisk};
+use tp_disk::{DeviceFailed, FileHistory, RawDisk};
 
 /// Puts a piece into bytes at a place, in one call, and leaves out what would go past the end.
 fn put(bytes: &mut [u8], at: usize, piece: &[u8]) {
@@ -122,7 +120,7 @@ impl Changing {
     /// The device.
     pub(crate) fn disk(&mut self) -> RawChanging<'_> {
         RawChanging {
-            size: self.bytes.len() as u64,
+            noted: FileHistory::of_zeros(self.bytes.len() as u64),
             changing: self,
         }
     }
@@ -131,56 +129,37 @@ impl Changing {
 /// A device over that, which is lent it.
 #[derive(Drop)]
 pub(crate) struct RawChanging<'a> {
-    size: u64,
+    noted: FileHistory,
     changing: &'a mut Changing,
 }
 
 impl<'a> RawDisk for RawChanging<'a> {
-    ghost size_of = { λ d. d.size };
+    ghost size_of = { λ d. d.noted.size };
 
-    ghost keeps = { changing_keeps };
+    ghost state = { λ d. file_state d.noted };
 
-    ghost state = { λ _. unknown };
+    ghost reads = { λ d. file_reads d.noted };
 
     fn size(&self) -> u64 {
-        self.size
+        self.noted.size()
     }
 
-    #[tactic(auto, unfolding(crate::specs::Changing::changing_keeps))]
-    fn read(&mut self, at: u64, out: &mut [u8]) -> Result<(), DeviceFailed>
-        ensures size { self.new.size ≡ self.old.size }
-        ensures goes { changing_keeps → MomentPassed unknown unknown }
-        ensures bytes { changing_keeps → OnOk result (out.new ≡ take (length out.old) (drop at unknown.now.bytes)) }
-        ensures after { changing_keeps → OnOk result (unknown.now ≡ done Read unknown.now) }
-        ensures failed { changing_keeps → OnErr result (Fails Read unknown unknown) }
-    {
+    fn read(&mut self, at: u64, out: &mut [u8]) -> Result<(), DeviceFailed> {
         self.changing.read(at, out);
-        Ok(())
+        let ended = Ok(());
+        self.noted.has_read(at, out, ended)
     }
 
-    #[tactic(auto, unfolding(crate::specs::Changing::changing_keeps))]
-    fn write_at(&mut self, at: u64, bytes: &[u8]) -> Result<(), DeviceFailed>
-        ensures size { self.new.size ≡ self.old.size }
-        ensures goes { changing_keeps → MomentPassed unknown unknown }
-        ensures after { changing_keeps → OnOk result (unknown.now ≡ done (Write at bytes.now) unknown.now) }
-        ensures failed { changing_keeps → OnErr result (Fails (Write at bytes.now) unknown unknown) }
-    {
-        match self.changing.write(at, bytes) {
-            Ok(()) => Ok(()),
-            Err(_) => Err(DeviceFailed),
-        }
+    fn write_at(&mut self, at: u64, bytes: &[u8]) -> Result<(), DeviceFailed> {
+        let ended = self.changing.write(at, bytes).map_err(|_| DeviceFailed);
+        self.noted.has_written(at, bytes, ended)
     }
 
-    #[tactic(auto, unfolding(crate::specs::Changing::changing_keeps))]
-    fn sync(&mut self) -> Result<(), DeviceFailed>
-        ensures size { self.new.size ≡ self.old.size }
-        ensures goes { changing_keeps → MomentPassed unknown unknown }
-        ensures after { changing_keeps → OnOk result (unknown.now ≡ done Sync unknown.now) }
-        ensures failed { changing_keeps → OnErr result (Fails Sync unknown unknown) }
-    {
+    fn sync(&mut self) -> Result<(), DeviceFailed> {
         self.changing.begin();
-        Ok(())
+        let ended = Ok(());
+        self.noted.has_synced(ended)
     }
 
-    ghost whole = { λ k d. absurd (no_changing k) };
+    ghost whole = { λ d. d.noted.whole };
 }

@@ -1,6 +1,7 @@
 //! Files in memory whose calls fail.
 
-ghost use Rattle.std.specs.Prelude.{◌≡◌, ◌≤◌, [], ◌∷◌, ◌++◌};
+ghost use Rattle.std.specs.Prelude.{◌≡◌, ◌≤◌, [], ◌∷◌, ◌++◌, true};
+ghost use Rattle.tp_stream_files.specs.Told.{Opened};
 
 use std::fs::OpenOptions;
 use std::io;
@@ -96,13 +97,13 @@ pub(crate) struct Lent<'a> {
 }
 
 impl<'a> Lent<'a> {
-    /// No call of it was made.
-    pub(crate) fn new(file: &'a mut FakeFile) -> Lent<'a>
-        ensures { result.trace.told ≡ [] }
+    /// It was opened at a path. No other call of it was made.
+    pub(crate) fn new(how: &OpenOptions, path: &str, file: &'a mut FakeFile) -> Lent<'a>
+        ensures { result.trace.told ≡ Opened how.now path.now true ∷ [] }
     {
         Lent {
             file,
-            trace: Trace::new(),
+            trace: Trace::new().opened(how, path, true),
         }
     }
 }
@@ -192,7 +193,7 @@ impl<'a> EndFiles for FakeFiles<'a> {
         match self.file.take() {
             Some(file) => {
                 self.trace = self.trace.opened(how, path, true);
-                Ok(Lent::new(file))
+                Ok(Lent::new(how, path, file))
             }
             None => {
                 self.trace = self.trace.opened(how, path, false);

@@ -1,3 +1,2 @@
 pub mod Lower
 pub mod Spelt
-pub mod Unkind

@@ -1,7 +1,7 @@
 //! What is made of a device that opened: a network in threads, and its flusher.
 
 ghost use Rattle.std.specs.Prelude.{◌≡◌, ◌<◌, ◌≤◌, [], true, false, Ok, All, IfOk, Some};
-ghost use Rattle.tp_tests_threads.specs.Lower.{place_at, IsMadeOf, IsSynced, is_roomy, room, verdict, MAX_STEPS, Names, MAX_SEATS};
+ghost use Rattle.tp_tests_threads.specs.Lower.{AreTrue, place_at, IsMadeOf, IsSynced, is_roomy, room, verdict, MAX_STEPS, Names, MAX_SEATS};
 ghost use Rattle.tp_tests_threads.specs.Spelt.{IsSpelt};
 
 use std::alloc::{AllocError, Global};
@@ -40,8 +40,8 @@ pub struct Opening<D: Disk> {
     pub ghost roomy: { is_roomy opened.value.head.topology opened.value.head.areas.length ≡ true },
     pub ghost place: { store.place ≡ place_at opened.value },
     pub ghost unbroken: { store.broken ≡ false },
-    pub ghost read: { D.keeps → verdict (D.state store.disk).now.bytes ≡ Ok opened.value },
-    pub ghost synced: { D.keeps → IsSynced (D.state store.disk) },
+    pub ghost read: { AreTrue (D.reads store.disk) → verdict (D.state store.disk).now.bytes ≡ Ok opened.value },
+    pub ghost synced: { AreTrue (D.reads store.disk) → IsSynced (D.state store.disk) },
 }
 
 impl<D: Disk + Drop> Opening<D> {

@@ -1,11 +1,10 @@
 //! A device in memory that is as unkind as the disk model allows.
 
-ghost use Rattle.std.specs.Prelude.{◌≡◌, ◌+◌, ◌≤◌, length, take, drop, OnOk, OnErr};
-ghost use Rattle.tp_tests_threads.specs.Lower.{Write, Sync, Read, done, MomentPassed, Fails, unknown};
-ghost use Rattle.tp_tests_threads.specs.Unkind.{no_unkind, unkind_keeps};
+ghost use Rattle.std.specs.Prelude.{◌≡◌};
+ghost use Rattle.tp_disk.specs.Noted.{file_reads, file_state};
 
 use std::alloc::{AllocError, Global};
-use tp_disk::{Counted, DeviceFailed, RawDisk};
+use tp_disk::{Counted, DeviceFailed, FileHistory, RawDisk};
 use tp_tests_fixtures::place;
 
 /// What then is in a range that isn't synced: what was there at the last sync that was done, what was written last, one byte everywhere, or for each
@@ -68,8 +67,9 @@ enum Came {
 /// it too, and no sync makes it good.
 #[derive(Drop)]
 pub(crate) struct RawUnkind {
-    /// How many bytes it has, and the bytes as a read gives them.
-    size: u64,
+    /// How many bytes it has, and its calls.
+    noted: FileHistory,
+    /// The bytes as a read gives them.
     bytes: Vec<u8>,
     /// What was at the last sync that was done.
     synced: Vec<u8>,
@@ -117,7 +117,7 @@ impl RawUnkind {
         fault: Option<Fault>,
     ) -> Result<Unkind, AllocError> {
         Ok(Counted::new(RawUnkind {
-            size: bytes.len() as u64,
+            noted: FileHistory::of_zeros(bytes.len() as u64),
             bytes: Vec::from_slice(alloc, bytes)?,
             synced: Vec::from_slice(alloc, bytes)?,
             ranges: Vec::with_capacity(alloc, RANGES)?,
@@ -140,7 +140,7 @@ impl RawUnkind {
 
     /// Counts a call, and says what it comes to.
     fn begin(&mut self) -> Came
-        ensures { self.new.size ≡ self.old.size }
+        ensures { self.new.noted ≡ self.old.noted }
     {
         let call = self.calls;
         self.calls = call.saturating_add(1);
@@ -155,7 +155,7 @@ impl RawUnkind {
 
     /// What the call of a fault comes to.
     fn come_to(&mut self, fault: Fault) -> Came
-        ensures { self.new.size ≡ self.old.size }
+        ensures { self.new.noted ≡ self.old.noted }
     {
         match fault.ending {
             Ending::Fails => {}
@@ -166,7 +166,7 @@ impl RawUnkind {
 
     /// Tears all that isn't synced.
     fn tear(&mut self, fault: Fault)
-        ensures { self.new.size ≡ self.old.size }
+        ensures { self.new.noted ≡ self.old.noted }
     {
         let RawUnkind {
             bytes,
@@ -184,7 +184,7 @@ impl RawUnkind {
 
     /// Writes bytes, which aren't synced then.
     fn write(&mut self, at: u64, bytes: &[u8]) -> Result<(), DeviceFailed>
-        ensures { self.new.size ≡ self.old.size }
+        ensures { self.new.noted ≡ self.old.noted }
     {
         let at = at as usize;
         if self.ranges.push((at, bytes.len())).is_err() {
@@ -196,7 +196,7 @@ impl RawUnkind {
 
     /// A call that ends badly, once a write has begun.
     fn end(&mut self, fault: Fault) -> Result<(), DeviceFailed>
-        ensures { self.new.size ≡ self.old.size }
+        ensures { self.new.noted ≡ self.old.noted }
     {
         self.tear(fault);
         Err(DeviceFailed)
@@ -204,7 +204,7 @@ impl RawUnkind {
 
     /// What is now is synced.
     fn settle(&mut self)
-        ensures { self.new.size ≡ self.old.size }
+        ensures { self.new.noted ≡ self.old.noted }
     {
         let RawUnkind {
             bytes,
@@ -217,26 +217,10 @@ impl RawUnkind {
         }
         ranges.clear();
     }
-}
 
-impl RawDisk for RawUnkind {
-    ghost size_of = { λ d. d.size };
-
-    ghost keeps = { unkind_keeps };
-
-    ghost state = { λ _. unknown };
-
-    fn size(&self) -> u64 {
-        self.size
-    }
-
-    #[tactic(auto, unfolding(crate::specs::Unkind::unkind_keeps))]
-    fn read(&mut self, at: u64, out: &mut [u8]) -> Result<(), DeviceFailed>
-        ensures size { self.new.size ≡ self.old.size }
-        ensures goes { unkind_keeps → MomentPassed unknown unknown }
-        ensures bytes { unkind_keeps → OnOk result (out.new ≡ take (length out.old) (drop at unknown.now.bytes)) }
-        ensures after { unkind_keeps → OnOk result (unknown.now ≡ done Read unknown.now) }
-        ensures failed { unkind_keeps → OnErr result (Fails Read unknown unknown) }
+    /// Reads from `at` on.
+    fn give(&mut self, at: u64, out: &mut [u8]) -> Result<(), DeviceFailed>
+        ensures { self.new.noted ≡ self.old.noted }
     {
         match self.begin() {
             Came::Done => {
@@ -249,12 +233,9 @@ impl RawDisk for RawUnkind {
         }
     }
 
-    #[tactic(auto, unfolding(crate::specs::Unkind::unkind_keeps))]
-    fn write_at(&mut self, at: u64, bytes: &[u8]) -> Result<(), DeviceFailed>
-        ensures size { self.new.size ≡ self.old.size }
-        ensures goes { unkind_keeps → MomentPassed unknown unknown }
-        ensures after { unkind_keeps → OnOk result (unknown.now ≡ done (Write at bytes.now) unknown.now) }
-        ensures failed { unkind_keeps → OnErr result (Fails (Write at bytes.now) unknown unknown) }
+    /// Writes from `at` on.
+    fn take(&mut self, at: u64, bytes: &[u8]) -> Result<(), DeviceFailed>
+        ensures { self.new.noted ≡ self.old.noted }
     {
         match self.begin() {
             Came::Done => self.write(at, bytes),
@@ -268,12 +249,9 @@ impl RawDisk for RawUnkind {
         }
     }
 
-    #[tactic(auto, unfolding(crate::specs::Unkind::unkind_keeps))]
-    fn sync(&mut self) -> Result<(), DeviceFailed>
-        ensures size { self.new.size ≡ self.old.size }
-        ensures goes { unkind_keeps → MomentPassed unknown unknown }
-        ensures after { unkind_keeps → OnOk result (unknown.now ≡ done Sync unknown.now) }
-        ensures failed { unkind_keeps → OnErr result (Fails Sync unknown unknown) }
+    /// Syncs.
+    fn force(&mut self) -> Result<(), DeviceFailed>
+        ensures { self.new.noted ≡ self.old.noted }
     {
         match self.begin() {
             Came::Done => {
@@ -284,6 +262,33 @@ impl RawDisk for RawUnkind {
             Came::Ends(fault) => self.end(fault),
         }
     }
+}
 
-    ghost whole = { λ k d. absurd (no_unkind k) };
+impl RawDisk for RawUnkind {
+    ghost size_of = { λ d. d.noted.size };
+
+    ghost state = { λ d. file_state d.noted };
+
+    ghost reads = { λ d. file_reads d.noted };
+
+    fn size(&self) -> u64 {
+        self.noted.size()
+    }
+
+    fn read(&mut self, at: u64, out: &mut [u8]) -> Result<(), DeviceFailed> {
+        let ended = self.give(at, out);
+        self.noted.has_read(at, out, ended)
+    }
+
+    fn write_at(&mut self, at: u64, bytes: &[u8]) -> Result<(), DeviceFailed> {
+        let ended = self.take(at, bytes);
+        self.noted.has_written(at, bytes, ended)
+    }
+
+    fn sync(&mut self) -> Result<(), DeviceFailed> {
+        let ended = self.force();
+        self.noted.has_synced(ended)
+    }
+
+    ghost whole = { λ d. d.noted.whole };
 }

@@ -12,3 +12,4 @@ pub mod Traces
 mod Looked
 mod Walks
 mod Told
+mod Tries

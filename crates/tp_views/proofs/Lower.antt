@@ -19,6 +19,8 @@ pub use Rattle.std.specs.declared.alloc.Global.{Global}
 pub use Rattle.std.specs.declared.string.String.{String}
 pub use Rattle.tp_model.specs.Bytes.{u32_at}
 pub use Rattle.tp_model.specs.Device.{area_start, content_of, generation_of}
+pub use Rattle.tp_model.specs.Disk.{Moment, Sync, done}
+pub use Rattle.tp_model.specs.DiskHistory.{Counts, State}
 pub use Rattle.tp_model.specs.EndBytes.{in_end_at, out_end_at}
 unfoldable pub use Rattle.tp_model.specs.Entries.{process}
 pub use Rattle.tp_model.specs.Head.{Head}
@@ -63,7 +65,7 @@ pub use Rattle.tp_book.specs.Ports.{PortValue}
 pub use Rattle.tp_turn.specs.Output.{OutputAs}
 pub use Rattle.tp_turn.specs.Tried.{fresh_image}
 pub use Rattle.tp_turn.specs.declared.image.TryFault.{TryFault}
-pub use Rattle.tp_turn.specs.declared.image.TryFault.TheVariants.{BadImage, Memory}
+pub use Rattle.tp_turn.specs.declared.image.TryFault.TheVariants.{BadImage}
 pub use Rattle.tp_trace.specs.Hex.{hex_word}
 pub use Rattle.tp_trace.specs.Lines.{stop_line}
 pub use Rattle.tp_trace.specs.Others.{Attended, attended}
@@ -71,6 +73,8 @@ pub use Rattle.tp_trace.specs.Steps.{Hears, stepped, took_one}
 pub use Rattle.tp_trace.specs.Stops.{memory_of}
 pub use Rattle.tp_trace.specs.declared.hearing.Heard.{Heard}
 pub use Rattle.tp_trace.specs.declared.others.Linked.{Linked}
+pub use Rattle.tp_disk.proofs.Readings.{read_kept, read_true}
+pub use Rattle.tp_disk.specs.Reads.{AreTrue, Reading, WereTrue}
 pub use Rattle.tp_area.specs.Formatting.{FormatAnswer}
 pub use Rattle.tp_area.specs.declared.fault.FormatFault.{FormatFault}
 pub use Rattle.tp_area.specs.declared.fault.FormatFault.TheVariants.{AreaFull, DeviceFailed}
@@ -79,10 +83,10 @@ pub use Rattle.tp_recover.proofs.Leaving.{read_leaves, then_leaves}
 pub use Rattle.tp_recover.specs.Before.{IsImage, node_before}
 pub use Rattle.tp_recover.specs.Cuts.{network_of_cut}
 pub use Rattle.tp_recover.specs.Nodes.{AreAllThawed, live_node}
-pub use Rattle.tp_recover.specs.Reading.{ReadAnswer}
+pub use Rattle.tp_recover.specs.Reading.{LeavesAlone, LeavesNothingNew, ReadAnswer, has_read}
 pub use Rattle.tp_recover.specs.declared.cut.Cut.{Cut}
 pub use Rattle.tp_recover.specs.declared.unopened.Unopened.{Unopened}
-pub use Rattle.tp_recover.specs.declared.unopened.Unopened.TheVariants.{Fault, ReadFailed}
+pub use Rattle.tp_recover.specs.declared.unopened.Unopened.TheVariants.{Fault, Memory, ReadFailed}
 pub use Rattle.tp_stream_files.proofs.Fronts.{kept_appended, more_appended, none_appended}
 pub use Rattle.tp_words.specs.declared.views.JournalPart.{JournalPart}
 pub use Rattle.tp_words.specs.declared.views.TracePart.{TracePart}

@@ -1,8 +1,7 @@
 -- Who waits for whom, said of an opened device by its cut, which is read once more.
 use Rattle.std.specs.Prelude.{◌≡◌, ◌+◌, ℕ, Bool, true, false, List, [], drop, map, refl, Option, Some, Result, Ok, Err, string_bytes}
 use Rattle.std.proofs.Common.{◌∙◌, sym, ap, subst}
-use Rattle.tp_views.proofs.Lower.{Global, String, Appends, area_start, content_of, Head, head_of, Network, t414, t414_ends, NodeState, Opened, area_in, base_of, chosen_area, closed_in, cut_in, front_in, opening, verdict, ◌>>=◌, after_rows, replay_from, Entry, OpenFault, network_of_cut, live_node, ReadAnswer, Cut, Unopened, Fault, ReadFailed, WireEnd, generation_of, groups_place, listing}
-use Rattle.tp_recover.specs.declared.unopened.Unopened.TheVariants.{Memory}
+use Rattle.tp_views.proofs.Lower.{Global, String, Appends, area_start, content_of, Head, head_of, Network, t414, t414_ends, NodeState, Opened, area_in, base_of, chosen_area, closed_in, cut_in, front_in, opening, verdict, ◌>>=◌, after_rows, replay_from, Entry, OpenFault, network_of_cut, live_node, ReadAnswer, Cut, Unopened, Fault, ReadFailed, WireEnd, generation_of, groups_place, listing, Memory}
 use Rattle.tp_views.specs.Maps.{Maps}
 use Rattle.tp_views.specs.Scene.{Seen, scene_of}
 use Rattle.tp_views.specs.declared.since.NodeSince.{NodeSince}

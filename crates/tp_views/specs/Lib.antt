@@ -16,7 +16,6 @@ pub mod Done
 pub mod NodeDone
 pub mod TimeOfDay
 pub mod Status
-pub mod JsonStatus
 pub mod NodeText
 pub mod JsonPort
 pub mod Scene

@@ -1,8 +1,7 @@
 -- What one check of `status` does.
 use Rattle.std.specs.Prelude.{◌≡◌, ℕ, Bool, List, Option, Ok}
 use Rattle.tp_views.specs.Lower.{Appends, Opened, verdict}
-use Rattle.tp_views.specs.JsonStatus.{look_text}
-use Rattle.tp_views.specs.Status.{IsSeen}
+use Rattle.tp_views.specs.Status.{IsSeen, look_text}
 use Rattle.tp_views.specs.declared.status.Seen.{Seen}
 
 -- The device opens, and exactly its line is printed, as JSON or not. The answer is what was seen of it.

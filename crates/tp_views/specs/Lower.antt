@@ -59,7 +59,7 @@ pub use Rattle.tp_node.specs.Rest.{has_nobody}
 pub use Rattle.tp_node.specs.Standing.{standing}
 pub use Rattle.tp_node.specs.Waiters.{listener, sender}
 pub use Rattle.tp_node.specs.declared.standing.Standing.{Standing}
-pub use Rattle.tp_node.specs.declared.standing.Standing.TheVariants.{Free, Halted, Waits}
+pub use Rattle.tp_node.specs.declared.standing.Standing.TheVariants.{Free, Halted}
 pub use Rattle.tp_node.specs.declared.waiter.Deed.{Deed}
 pub use Rattle.tp_node.specs.declared.waiter.Deed.TheVariants.{Chooses, Inputs, Sends}
 pub use Rattle.tp_node.specs.declared.waiter.Waiter.{Waiter}
@@ -75,6 +75,7 @@ pub use Rattle.tp_trace.specs.Steps.{heard, seen, stepped, took_one}
 pub use Rattle.tp_trace.specs.Stops.{instruction_at, memory_of}
 pub use Rattle.tp_trace.specs.declared.hearing.Heard.{Heard}
 pub use Rattle.tp_trace.specs.declared.stepping.Seen.{Seen}
+pub use Rattle.tp_disk.specs.Reads.{AreTrue, WereTrue}
 pub use Rattle.tp_area.specs.Capacity.{journal_of}
 pub use Rattle.tp_area.specs.Fronts.{area_front}
 pub use Rattle.tp_area.specs.declared.front.AreaFront.{AreaFront}
@@ -89,4 +90,4 @@ pub use Rattle.tp_words.specs.declared.trace_args.TraceLines.TheVariants.{Every,
 pub use Rattle.tp_words.specs.declared.views.JournalPart.{JournalPart}
 pub use Rattle.tp_words.specs.declared.views.TracePart.{TracePart}
 pub use Rattle.tp_words.specs.declared.views.View.{View}
-pub use Rattle.tp_words.specs.declared.views.View.TheVariants.{Image, Journal, Node, NodeJson, Outputs, OutputsJson, Pending, PendingJson, WaitsDot, WaitsJson}
+pub use Rattle.tp_words.specs.declared.views.View.TheVariants.{Image, Journal, Node, NodeJson, Outputs, OutputsJson, Pending, PendingJson, Waits, WaitsDot, WaitsJson}

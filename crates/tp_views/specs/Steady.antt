@@ -1,6 +1,6 @@
 -- What a look finds on a device, and what opening answers if another process may write the device meanwhile. A look reads the fronts of both areas.
 use Rattle.std.specs.Prelude.{◌≡◌, ℕ, Bool, true, false, ◌||◌, ◌&&◌, not, nat_lt, if◌then◌else◌, List, Option, Some, None, Result, Ok, Err}
-use Rattle.tp_views.specs.Lower.{area_front, AreaFront, area_start, Head, Opened, TwoAreas, OpenFault, Unopened}
+use Rattle.tp_views.specs.Lower.{area_front, AreaFront, area_start, Head, Opened, TwoAreas, OpenFault, Unopened, has_read}
 use Rattle.tp_views.specs.declared.steady.Fronts.{Fronts}
 use Rattle.tp_views.specs.declared.steady.Tried.{Tried}
 use Rattle.tp_views.specs.declared.steady.Tried.TheVariants.{Steady, Changed}
@@ -42,6 +42,11 @@ CountsStill None None = Unit {0}
 CountsStill None (Some after) = ⊥
 CountsStill (Some before) None = ⊥
 CountsStill (Some before) (Some after) = (after.areas ≡ before.areas) × StayedOpen (counting before) before after
+
+-- no call of the device failed
+abbrev pub has_tried : Tried → Bool
+has_tried (Steady answer) = has_read answer
+has_tried Changed = true
 
 -- The answer is that of one moment, and `P` is true of it.
 abbrev pub OfSteady : (Result Opened Unopened → Type 0) → Tried → Type 0

@@ -1,8 +1,9 @@
 //! Opening a device with several threads, while another process may be running it.
 
 ghost use Rattle.std.specs.Prelude.{◌≡◌, ◌≤◌, ◌<◌, ◌^◌, IfOk};
-ghost use Rattle.tp_views.specs.Lower.{areas_end, Sync, done, Counts, verdict, has_read, ReadAnswer, LeavesAlone, LeavesNothingNew};
-ghost use Rattle.tp_views.specs.Steady.{OfSteady};
+ghost use Rattle.tp_views.specs.Lower.{AreTrue, WereTrue, areas_end, Sync, done, Counts, verdict, has_read, ReadAnswer, LeavesAlone, LeavesNothingNew};
+ghost use Rattle.tp_views.specs.Opens.{IsUnwritten};
+ghost use Rattle.tp_views.specs.Steady.{OfSteady, has_tried};
 
 use crate::steady::{MAX_TRIES, Tried, is_still, look};
 use std::alloc::Global;
@@ -21,11 +22,12 @@ pub fn open_by<D: Disk, R: Threads + Sync>(
     workers: u8,
 ) -> Result<Opened, Unopened>
     ensures counts { Counts (has_read result) (D.size_of disk.old) (D.size_of disk.new) (D.failures_of disk.old) (D.failures_of disk.new) }
-    ensures kept { D.keeps → LeavesAlone result (done Sync (D.state disk.old).now) (D.state disk.new).now }
-    ensures leaves { D.keeps → LeavesNothingNew (D.state disk.old) (D.state disk.new) }
+    ensures premise { WereTrue (D.reads disk.old) (D.reads disk.new) }
+    ensures kept { LeavesAlone result (done Sync (D.state disk.old).now) (D.state disk.new).now }
+    ensures leaves { LeavesNothingNew (D.state disk.old) (D.state disk.new) }
     ensures whole { IfOk result (λ opened. areas_end opened.head.areas ≤ D.size_of disk.old) }
     ensures counted { IfOk result (λ opened. D.size_of disk.old < 2 ^ 64) }
-    ensures is { D.keeps → ReadAnswer (λ opened. opened) (verdict (D.state disk.old).now.bytes) result }
+    ensures is { AreTrue (D.reads disk.new) → ReadAnswer (λ opened. opened) (verdict (D.state disk.old).now.bytes) result }
 {
     if 1 < workers && workers <= MAX_WORKERS {
         open_parallel(alloc, disk, workers, &NoGate, rt)
@@ -41,10 +43,11 @@ fn open_once_by<D: Disk, R: Threads + Sync>(
     disk: &mut D,
     workers: u8,
 ) -> Tried
-    ensures leaves { D.keeps → LeavesNothingNew (D.state disk.old) (D.state disk.new) }
-    ensures counts { D.keeps → OfSteady (λ answer. Counts (has_read answer) (D.size_of disk.old) (D.size_of disk.new) (D.failures_of disk.old) (D.failures_of disk.new)) result }
-    ensures kept { D.keeps → OfSteady (λ answer. LeavesAlone answer (done Sync (D.state disk.old).now) (D.state disk.new).now) result }
-    ensures is { D.keeps → OfSteady (ReadAnswer (λ opened. opened) (verdict (D.state disk.old).now.bytes)) result }
+    ensures counts { Counts (has_tried result) (D.size_of disk.old) (D.size_of disk.new) (D.failures_of disk.old) (D.failures_of disk.new) }
+    ensures premise { WereTrue (D.reads disk.old) (D.reads disk.new) }
+    ensures kept { IsUnwritten (D.failures_of disk.old) (D.failures_of disk.new) (D.state disk.old).now (D.state disk.new).now }
+    ensures leaves { LeavesNothingNew (D.state disk.old) (D.state disk.new) }
+    ensures is { AreTrue (D.reads disk.new) → OfSteady (ReadAnswer (λ opened. opened) (verdict (D.state disk.old).now.bytes)) result }
 {
     let Ok(before) = look(disk) else {
         return Tried::Steady(Err(Unopened::ReadFailed));
@@ -67,10 +70,11 @@ pub fn open_steady_by<D: Disk, R: Threads + Sync>(
     disk: &mut D,
     workers: u8,
 ) -> Tried
-    ensures leaves { D.keeps → LeavesNothingNew (D.state disk.old) (D.state disk.new) }
-    ensures counts { D.keeps → OfSteady (λ answer. Counts (has_read answer) (D.size_of disk.old) (D.size_of disk.new) (D.failures_of disk.old) (D.failures_of disk.new)) result }
-    ensures kept { D.keeps → OfSteady (λ answer. LeavesAlone answer (done Sync (D.state disk.old).now) (D.state disk.new).now) result }
-    ensures is { D.keeps → OfSteady (ReadAnswer (λ opened. opened) (verdict (D.state disk.old).now.bytes)) result }
+    ensures counts { Counts (has_tried result) (D.size_of disk.old) (D.size_of disk.new) (D.failures_of disk.old) (D.failures_of disk.new) }
+    ensures premise { WereTrue (D.reads disk.old) (D.reads disk.new) }
+    ensures kept { IsUnwritten (D.failures_of disk.old) (D.failures_of disk.new) (D.state disk.old).now (D.state disk.new).now }
+    ensures leaves { LeavesNothingNew (D.state disk.old) (D.state disk.new) }
+    ensures is { AreTrue (D.reads disk.new) → OfSteady (ReadAnswer (λ opened. opened) (verdict (D.state disk.old).now.bytes)) result }
 {
     let mut left = MAX_TRIES;
     while left > 0 {

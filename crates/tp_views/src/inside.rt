@@ -1,10 +1,11 @@
 //! Whether processes wait for other nodes. It is said after a stream that ended because nothing was left to do.
 
 ghost use Rattle.std.specs.Prelude.{◌≡◌, IfOk};
-ghost use Rattle.tp_recover.specs.Reading.{LeavesNothingNew};
+ghost use Rattle.tp_views.specs.Lower.{LeavesNothingNew, AreTrue, WereTrue};
 ghost use Rattle.tp_views.specs.Inside.{HasInside, waits_within};
 ghost use Rattle.tp_views.specs.Opens.{IsUnwritten};
 
+use crate::looking::open_to_read;
 use crate::refusal::Refusal;
 use crate::scene::scene_of;
 use crate::steady::{Tried, open_steady};
@@ -13,7 +14,7 @@ use std::alloc::{AllocError, Global};
 use std::fs::{Files, OpenFile};
 use std::io::Write;
 use std::os::unix::fs::FileExt;
-use tp_disk::{Counted, Disk, NotedFile, RawFile};
+use tp_disk::Disk;
 use tp_recover::Opened;
 use tp_words::Shown;
 
@@ -29,9 +30,10 @@ fn waits_within(alloc: Global, opened: Opened) -> Result<bool, AllocError>
 
 /// Whether a process of a device waits for another node. Nothing is written to the device.
 pub fn has_inside<D: Disk>(alloc: Global, disk: &mut D) -> Result<bool, Refusal>
-    ensures found { D.keeps → IfOk result (HasInside (D.state disk.old).now.bytes) }
-    ensures kept { D.keeps → IsUnwritten (D.failures_of disk.old) (D.failures_of disk.new) (D.state disk.old).now (D.state disk.new).now }
-    ensures leaves { D.keeps → LeavesNothingNew (D.state disk.old) (D.state disk.new) }
+    ensures found { AreTrue (D.reads disk.new) → IfOk result (HasInside (D.state disk.old).now.bytes) }
+    ensures kept { IsUnwritten (D.failures_of disk.old) (D.failures_of disk.new) (D.state disk.old).now (D.state disk.new).now }
+    ensures premise { WereTrue (D.reads disk.old) (D.reads disk.new) }
+    ensures leaves { LeavesNothingNew (D.state disk.old) (D.state disk.new) }
 {
     let Tried::Steady(answer) = open_steady(alloc, disk) else {
         return Err(Refusal::Busy);
@@ -49,8 +51,7 @@ pub fn tell_inside<R: Files<File = F> + AllocGlobal, F: FileExt + OpenFile + Dro
     device: &str,
     err: &mut E,
 ) {
-    let disk: Result<Counted<RawFile<NotedFile<F>>>, _> = Counted::open_to_read(rt, device);
-    let Ok(mut disk) = disk else {
+    let Ok(mut disk) = open_to_read(rt, device) else {
         return;
     };
     if let Ok(true) = has_inside(rt.alloc(), &mut disk) {

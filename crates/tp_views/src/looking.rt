@@ -2,8 +2,10 @@
 
 use std::alloc::AllocError;
 use std::fmt::Write as Push;
-use std::fs::{Files, OpenOptions};
+use std::fs::{Files, OpenFile, OpenOptions};
+use std::os::unix::fs::FileExt;
 use std::{fs, io};
+use tp_disk::{Counted, NotedFile, RawFile};
 use tp_words::Shown;
 
 /// Says what the system said of a path.
@@ -84,6 +86,15 @@ pub fn read_again<R: Files + AllocGlobal>(
     };
     said?;
     Ok(None)
+}
+
+/// Opens the device in a file, to be only read. That works without the right to write the file.
+pub(crate) fn open_to_read<R: Files<File = F>, F: FileExt + OpenFile + Drop>(
+    rt: &R,
+    device: &str,
+) -> io::Result<Counted<RawFile<NotedFile<F>>>> {
+    let file = OpenOptions::new().read(true).open(rt, device)?;
+    Ok(Counted::new(RawFile::new(NotedFile::new(file))?))
 }
 
 /// Whether a file that is there can be opened to be written.

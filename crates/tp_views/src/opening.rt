@@ -1,7 +1,7 @@
 //! `tpnet recover` and `tpnet show`, over any device.
 
 ghost use Rattle.std.specs.Prelude.{◌≡◌, ◌≤◌, IfOk, IsErr, OnOk, string_bytes};
-ghost use Rattle.tp_views.specs.Lower.{verdict, LeavesNothingNew};
+ghost use Rattle.tp_views.specs.Lower.{AreTrue, WereTrue, verdict, LeavesNothingNew};
 ghost use Rattle.tp_views.specs.Front.{PrintsFront};
 ghost use Rattle.tp_views.specs.Opens.{IsUnwritten, Prints, front_said, recovered, shown};
 
@@ -37,11 +37,12 @@ fn recover<D: Disk, O: Write, R: Threads + Sync>(
     workers: u8,
     out: &mut O,
 ) -> Result<(), Refusal>
-    ensures done { D.keeps → OnOk result (Prints recovered (D.state disk.old).now.bytes (O.contents out.old) (O.contents out.new)) }
-    ensures leaves { D.keeps → LeavesNothingNew (D.state disk.old) (D.state disk.new) }
-    ensures front { D.keeps → PrintsFront recovered (D.state disk.old).now.bytes (O.contents out.old) (O.contents out.new) }
-    ensures kept { D.keeps → IsUnwritten (D.failures_of disk.old) (D.failures_of disk.new) (D.state disk.old).now (D.state disk.new).now }
-    ensures refused { D.keeps → IsErr (verdict (D.state disk.old).now.bytes) → (IsErr result) × (O.contents out.new ≡ O.contents out.old) }
+    ensures done { AreTrue (D.reads disk.new) → OnOk result (Prints recovered (D.state disk.old).now.bytes (O.contents out.old) (O.contents out.new)) }
+    ensures premise { WereTrue (D.reads disk.old) (D.reads disk.new) }
+    ensures leaves { LeavesNothingNew (D.state disk.old) (D.state disk.new) }
+    ensures front { AreTrue (D.reads disk.new) → PrintsFront recovered (D.state disk.old).now.bytes (O.contents out.old) (O.contents out.new) }
+    ensures kept { IsUnwritten (D.failures_of disk.old) (D.failures_of disk.new) (D.state disk.old).now (D.state disk.new).now }
+    ensures refused { AreTrue (D.reads disk.new) → IsErr (verdict (D.state disk.old).now.bytes) → (IsErr result) × (O.contents out.new ≡ O.contents out.old) }
 {
     let Tried::Steady(answer) = open_steady_by(rt, alloc, disk, workers) else {
         return Err(Refusal::Busy);
@@ -66,11 +67,12 @@ fn show<D: Disk, O: Write>(
     json: bool,
     out: &mut O,
 ) -> Result<(), Refusal>
-    ensures done { D.keeps → OnOk result (Prints (shown json) (D.state disk.old).now.bytes (O.contents out.old) (O.contents out.new)) }
-    ensures leaves { D.keeps → LeavesNothingNew (D.state disk.old) (D.state disk.new) }
-    ensures front { D.keeps → PrintsFront (shown json) (D.state disk.old).now.bytes (O.contents out.old) (O.contents out.new) }
-    ensures kept { D.keeps → IsUnwritten (D.failures_of disk.old) (D.failures_of disk.new) (D.state disk.old).now (D.state disk.new).now }
-    ensures refused { D.keeps → IsErr (verdict (D.state disk.old).now.bytes) → (IsErr result) × (O.contents out.new ≡ O.contents out.old) }
+    ensures done { AreTrue (D.reads disk.new) → OnOk result (Prints (shown json) (D.state disk.old).now.bytes (O.contents out.old) (O.contents out.new)) }
+    ensures premise { WereTrue (D.reads disk.old) (D.reads disk.new) }
+    ensures leaves { LeavesNothingNew (D.state disk.old) (D.state disk.new) }
+    ensures front { AreTrue (D.reads disk.new) → PrintsFront (shown json) (D.state disk.old).now.bytes (O.contents out.old) (O.contents out.new) }
+    ensures kept { IsUnwritten (D.failures_of disk.old) (D.failures_of disk.new) (D.state disk.old).now (D.state disk.new).now }
+    ensures refused { AreTrue (D.reads disk.new) → IsErr (verdict (D.state disk.old).now.bytes) → (IsErr result) × (O.contents out.new ≡ O.contents out.old) }
 {
     let Tried::Steady(answer) = open_steady(alloc, disk) else {
         return Err(Refusal::Busy);
@@ -93,11 +95,12 @@ pub fn recover_on<D: Disk, O: Write, E: Write, R: Threads + Sync>(
     err: &mut E,
 ) -> u8
     ensures status { result ≤ 1 }
-    ensures done { D.keeps → result ≡ 0 → Prints recovered (D.state disk.old).now.bytes (O.contents out.old) (O.contents out.new) }
-    ensures leaves { D.keeps → LeavesNothingNew (D.state disk.old) (D.state disk.new) }
-    ensures front { D.keeps → PrintsFront recovered (D.state disk.old).now.bytes (O.contents out.old) (O.contents out.new) }
-    ensures kept { D.keeps → IsUnwritten (D.failures_of disk.old) (D.failures_of disk.new) (D.state disk.old).now (D.state disk.new).now }
-    ensures refused { D.keeps → IsErr (verdict (D.state disk.old).now.bytes) → (result ≡ 1) × (O.contents out.new ≡ O.contents out.old) }
+    ensures done { AreTrue (D.reads disk.new) → result ≡ 0 → Prints recovered (D.state disk.old).now.bytes (O.contents out.old) (O.contents out.new) }
+    ensures premise { WereTrue (D.reads disk.old) (D.reads disk.new) }
+    ensures leaves { LeavesNothingNew (D.state disk.old) (D.state disk.new) }
+    ensures front { AreTrue (D.reads disk.new) → PrintsFront recovered (D.state disk.old).now.bytes (O.contents out.old) (O.contents out.new) }
+    ensures kept { IsUnwritten (D.failures_of disk.old) (D.failures_of disk.new) (D.state disk.old).now (D.state disk.new).now }
+    ensures refused { AreTrue (D.reads disk.new) → IsErr (verdict (D.state disk.old).now.bytes) → (result ≡ 1) × (O.contents out.new ≡ O.contents out.old) }
 {
     match recover(rt, alloc, disk, workers, out) {
         Ok(()) => 0,
@@ -115,11 +118,12 @@ pub fn show_on<D: Disk, O: Write, E: Write>(
     err: &mut E,
 ) -> u8
     ensures status { result ≤ 1 }
-    ensures done { D.keeps → result ≡ 0 → Prints (shown json) (D.state disk.old).now.bytes (O.contents out.old) (O.contents out.new) }
-    ensures leaves { D.keeps → LeavesNothingNew (D.state disk.old) (D.state disk.new) }
-    ensures front { D.keeps → PrintsFront (shown json) (D.state disk.old).now.bytes (O.contents out.old) (O.contents out.new) }
-    ensures kept { D.keeps → IsUnwritten (D.failures_of disk.old) (D.failures_of disk.new) (D.state disk.old).now (D.state disk.new).now }
-    ensures refused { D.keeps → IsErr (verdict (D.state disk.old).now.bytes) → (result ≡ 1) × (O.contents out.new ≡ O.contents out.old) }
+    ensures done { AreTrue (D.reads disk.new) → result ≡ 0 → Prints (shown json) (D.state disk.old).now.bytes (O.contents out.old) (O.contents out.new) }
+    ensures premise { WereTrue (D.reads disk.old) (D.reads disk.new) }
+    ensures leaves { LeavesNothingNew (D.state disk.old) (D.state disk.new) }
+    ensures front { AreTrue (D.reads disk.new) → PrintsFront (shown json) (D.state disk.old).now.bytes (O.contents out.old) (O.contents out.new) }
+    ensures kept { IsUnwritten (D.failures_of disk.old) (D.failures_of disk.new) (D.state disk.old).now (D.state disk.new).now }
+    ensures refused { AreTrue (D.reads disk.new) → IsErr (verdict (D.state disk.old).now.bytes) → (result ≡ 1) × (O.contents out.new ≡ O.contents out.old) }
 {
     match show(alloc, disk, json, out) {
         Ok(()) => 0,

@@ -1,7 +1,7 @@
 //! Why a device's file can't be opened: it is opened again to find out.
 
 use crate::damage::push_fault;
-use crate::looking::{is_special, push_file};
+use crate::looking::{is_special, open_to_read, push_file};
 use crate::steady::{Tried, open_steady};
 use std::alloc::{AllocError, Global};
 use std::fmt::Write;
@@ -89,8 +89,7 @@ pub fn push_opening<R: Files<File = F> + AllocGlobal, F: FileExt + OpenFile + Dr
         push_special(text, device)?;
         return Ok(None);
     }
-    let disk: Result<Counted<RawFile<NotedFile<F>>>, _> = Counted::open_to_read(rt, device);
-    match disk {
+    match open_to_read(rt, device) {
         Ok(mut disk) => reopened(rt.alloc(), text, &mut disk, device),
         Err(error) => {
             push_file(text, device, &error)?;

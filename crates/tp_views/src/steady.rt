@@ -27,8 +27,9 @@
 //! isn't noticed: a file that is formatted anew while it is read, if the new device's front has the bytes of the old one's.
 
 ghost use Rattle.std.specs.Prelude.{◌≡◌, ◌+◌, ◌≤◌, ◌<◌, ◌^◌, ◌↔◌, IsTrue, IfErr, IfOk};
-ghost use Rattle.tp_views.specs.Lower.{area_front, areas_end, Sync, done, Counts, head_of, verdict, has_read, found, ReadAnswer, LeavesAlone, LeavesNothingNew};
-ghost use Rattle.tp_views.specs.Steady.{StayedOpen, CountsStill, OfSteady, counting, front_seen, fronts_in, is_above, look_finds};
+ghost use Rattle.tp_views.specs.Lower.{AreTrue, WereTrue, area_front, areas_end, Counts, head_of, verdict, has_read, found, ReadAnswer, LeavesAlone, LeavesNothingNew};
+ghost use Rattle.tp_views.specs.Opens.{IsUnwritten};
+ghost use Rattle.tp_views.specs.Steady.{StayedOpen, CountsStill, OfSteady, counting, front_seen, fronts_in, has_tried, is_above, look_finds};
 
 use std::alloc::Global;
 use tp_area::{AREA_FRONT_BYTES, AreaFront, area_front, area_start};
@@ -82,10 +83,11 @@ impl Fronts {
 fn read_front<D: Disk>(disk: &mut D, start: u64) -> Result<AreaFront, Unopened>
     requires { start + 9 ≤ D.size_of disk.old }
     ensures counts { Counts (has_read result) (D.size_of disk.old) (D.size_of disk.new) (D.failures_of disk.old) (D.failures_of disk.new) }
-    ensures kept { D.keeps → LeavesAlone result (D.state disk.old).now (D.state disk.new).now }
-    ensures leaves { D.keeps → LeavesNothingNew (D.state disk.old) (D.state disk.new) }
+    ensures premise { WereTrue (D.reads disk.old) (D.reads disk.new) }
+    ensures kept { LeavesAlone result (D.state disk.old).now (D.state disk.new).now }
+    ensures leaves { LeavesNothingNew (D.state disk.old) (D.state disk.new) }
     ensures refused { IfErr result (λ unopened. unopened ≡ Unopened.ReadFailed) }
-    ensures is { D.keeps → IfOk result (λ front. front ≡ area_front start (D.state disk.old).now.bytes) }
+    ensures is { AreTrue (D.reads disk.new) → IfOk result (λ front. front ≡ area_front start (D.state disk.old).now.bytes) }
 {
     let mut bytes = [0; AREA_FRONT_BYTES];
     match disk.read(start, &mut bytes) {
@@ -100,10 +102,11 @@ fn read_fronts<D: Disk>(disk: &mut D, areas: TwoAreas) -> Result<Fronts, Unopene
     requires inside { areas_end areas ≤ D.size_of disk.old }
     requires counted { areas_end areas < 2 ^ 64 }
     ensures counts { Counts (has_read result) (D.size_of disk.old) (D.size_of disk.new) (D.failures_of disk.old) (D.failures_of disk.new) }
-    ensures kept { D.keeps → LeavesAlone result (D.state disk.old).now (D.state disk.new).now }
-    ensures leaves { D.keeps → LeavesNothingNew (D.state disk.old) (D.state disk.new) }
+    ensures premise { WereTrue (D.reads disk.old) (D.reads disk.new) }
+    ensures kept { LeavesAlone result (D.state disk.old).now (D.state disk.new).now }
+    ensures leaves { LeavesNothingNew (D.state disk.old) (D.state disk.new) }
     ensures refused { IfErr result (λ unopened. unopened ≡ Unopened.ReadFailed) }
-    ensures is { D.keeps → IfOk result (λ fronts. fronts ≡ fronts_in areas (D.state disk.old).now.bytes) }
+    ensures is { AreTrue (D.reads disk.new) → IfOk result (λ fronts. fronts ≡ fronts_in areas (D.state disk.old).now.bytes) }
 {
     let start = area_start(areas, false);
     let Ok(first) = read_front(disk, start) else {
@@ -126,10 +129,11 @@ fn read_fronts<D: Disk>(disk: &mut D, areas: TwoAreas) -> Result<Fronts, Unopene
 /// Looks at a device: gives the fronts of its areas; `None` if it has no head, or one that breaks a rule.
 pub(crate) fn look<D: Disk>(disk: &mut D) -> Result<Option<Fronts>, Unopened>
     ensures counts { Counts (has_read result) (D.size_of disk.old) (D.size_of disk.new) (D.failures_of disk.old) (D.failures_of disk.new) }
-    ensures kept { D.keeps → LeavesAlone result (D.state disk.old).now (D.state disk.new).now }
-    ensures leaves { D.keeps → LeavesNothingNew (D.state disk.old) (D.state disk.new) }
+    ensures premise { WereTrue (D.reads disk.old) (D.reads disk.new) }
+    ensures kept { LeavesAlone result (D.state disk.old).now (D.state disk.new).now }
+    ensures leaves { LeavesNothingNew (D.state disk.old) (D.state disk.new) }
     ensures refused { IfErr result (λ unopened. unopened ≡ Unopened.ReadFailed) }
-    ensures is { D.keeps → IfOk result (λ found. found ≡ look_finds (head_of (D.state disk.old).now.bytes) (D.state disk.old).now.bytes) }
+    ensures is { AreTrue (D.reads disk.new) → IfOk result (λ found. found ≡ look_finds (head_of (D.state disk.old).now.bytes) (D.state disk.old).now.bytes) }
 {
     match read_head(disk) {
         Ok(head) => match read_fronts(disk, head.areas()) {
@@ -174,10 +178,11 @@ pub enum Tried {
 
 /// Opens a device between two looks. If a call on the device fails, it answers ReadFailed at once, since nothing is known after such a call.
 fn open_once<D: Disk>(alloc: Global, disk: &mut D) -> Tried
-    ensures leaves { D.keeps → LeavesNothingNew (D.state disk.old) (D.state disk.new) }
-    ensures counts { D.keeps → OfSteady (λ answer. Counts (has_read answer) (D.size_of disk.old) (D.size_of disk.new) (D.failures_of disk.old) (D.failures_of disk.new)) result }
-    ensures kept { D.keeps → OfSteady (λ answer. LeavesAlone answer (done Sync (D.state disk.old).now) (D.state disk.new).now) result }
-    ensures is { D.keeps → OfSteady (ReadAnswer (λ opened. opened) (verdict (D.state disk.old).now.bytes)) result }
+    ensures counts { Counts (has_tried result) (D.size_of disk.old) (D.size_of disk.new) (D.failures_of disk.old) (D.failures_of disk.new) }
+    ensures premise { WereTrue (D.reads disk.old) (D.reads disk.new) }
+    ensures kept { IsUnwritten (D.failures_of disk.old) (D.failures_of disk.new) (D.state disk.old).now (D.state disk.new).now }
+    ensures leaves { LeavesNothingNew (D.state disk.old) (D.state disk.new) }
+    ensures is { AreTrue (D.reads disk.new) → OfSteady (ReadAnswer (λ opened. opened) (verdict (D.state disk.old).now.bytes)) result }
 {
     let Ok(before) = look(disk) else {
         return Tried::Steady(Err(Unopened::ReadFailed));
@@ -194,13 +199,14 @@ fn open_once<D: Disk>(alloc: Global, disk: &mut D) -> Tried
 }
 
 /// Opens a device that another process may be running. The answer is what opening it would answer at one moment of the call, or `Changed` if it
-/// couldn't be read as it was at one moment. If the device keeps the model and no other process writes it, the answer is that of opening, and never
-/// `Changed`. Nothing is written.
+/// couldn't be read as it was at one moment. If each read gave what the device held, the answer is that of opening, and never `Changed`. Nothing is
+/// written.
 pub fn open_steady<D: Disk>(alloc: Global, disk: &mut D) -> Tried
-    ensures leaves { D.keeps → LeavesNothingNew (D.state disk.old) (D.state disk.new) }
-    ensures counts { D.keeps → OfSteady (λ answer. Counts (has_read answer) (D.size_of disk.old) (D.size_of disk.new) (D.failures_of disk.old) (D.failures_of disk.new)) result }
-    ensures kept { D.keeps → OfSteady (λ answer. LeavesAlone answer (done Sync (D.state disk.old).now) (D.state disk.new).now) result }
-    ensures is { D.keeps → OfSteady (ReadAnswer (λ opened. opened) (verdict (D.state disk.old).now.bytes)) result }
+    ensures counts { Counts (has_tried result) (D.size_of disk.old) (D.size_of disk.new) (D.failures_of disk.old) (D.failures_of disk.new) }
+    ensures premise { WereTrue (D.reads disk.old) (D.reads disk.new) }
+    ensures kept { IsUnwritten (D.failures_of disk.old) (D.failures_of disk.new) (D.state disk.old).now (D.state disk.new).now }
+    ensures leaves { LeavesNothingNew (D.state disk.old) (D.state disk.new) }
+    ensures is { AreTrue (D.reads disk.new) → OfSteady (ReadAnswer (λ opened. opened) (verdict (D.state disk.old).now.bytes)) result }
 {
     let mut left = MAX_TRIES;
     while left > 0 {

@@ -1,8 +1,9 @@
 //! Opening a device that another process may be running, and giving a node as it was before an entry.
 
-ghost use Rattle.std.specs.Prelude.{◌≡◌, IfOk};
-ghost use Rattle.tp_views.specs.Lower.{Sync, done, Counts, verdict, IsImageOf, node_before, has_read, ReadAnswer, LeavesAlone, LeavesNothingNew};
-ghost use Rattle.tp_views.specs.Steady.{IfSteady, OfSteady};
+ghost use Rattle.std.specs.Prelude.{IfOk};
+ghost use Rattle.tp_views.specs.Lower.{AreTrue, WereTrue, Counts, verdict, IsImageOf, node_before, ReadAnswer, LeavesNothingNew};
+ghost use Rattle.tp_views.specs.Opens.{IsUnwritten};
+ghost use Rattle.tp_views.specs.Steady.{IfSteady, OfSteady, has_tried};
 
 use crate::steady::{MAX_TRIES, Tried, is_still, look};
 use std::alloc::Global;
@@ -17,10 +18,11 @@ fn open_once_before<D: Disk>(
     from: u64,
     image: &mut Option<Vec<u8>>,
 ) -> Tried
-    ensures leaves { D.keeps → LeavesNothingNew (D.state disk.old) (D.state disk.new) }
-    ensures counts { D.keeps → OfSteady (λ answer. Counts (has_read answer) (D.size_of disk.old) (D.size_of disk.new) (D.failures_of disk.old) (D.failures_of disk.new)) result }
-    ensures kept { D.keeps → OfSteady (λ answer. LeavesAlone answer (done Sync (D.state disk.old).now) (D.state disk.new).now) result }
-    ensures is { D.keeps → OfSteady (ReadAnswer (λ opened. opened) (verdict (D.state disk.old).now.bytes)) result }
+    ensures counts { Counts (has_tried result) (D.size_of disk.old) (D.size_of disk.new) (D.failures_of disk.old) (D.failures_of disk.new) }
+    ensures premise { WereTrue (D.reads disk.old) (D.reads disk.new) }
+    ensures kept { IsUnwritten (D.failures_of disk.old) (D.failures_of disk.new) (D.state disk.old).now (D.state disk.new).now }
+    ensures leaves { LeavesNothingNew (D.state disk.old) (D.state disk.new) }
+    ensures is { AreTrue (D.reads disk.new) → OfSteady (ReadAnswer (λ opened. opened) (verdict (D.state disk.old).now.bytes)) result }
     ensures image { IfSteady (λ answer. IfOk answer (λ opened. IsImageOf (node_before node from opened) image.new)) result }
 {
     let Ok(before) = look(disk) else {
@@ -46,10 +48,11 @@ pub fn open_steady_before<D: Disk>(
     from: u64,
     image: &mut Option<Vec<u8>>,
 ) -> Tried
-    ensures leaves { D.keeps → LeavesNothingNew (D.state disk.old) (D.state disk.new) }
-    ensures counts { D.keeps → OfSteady (λ answer. Counts (has_read answer) (D.size_of disk.old) (D.size_of disk.new) (D.failures_of disk.old) (D.failures_of disk.new)) result }
-    ensures kept { D.keeps → OfSteady (λ answer. LeavesAlone answer (done Sync (D.state disk.old).now) (D.state disk.new).now) result }
-    ensures is { D.keeps → OfSteady (ReadAnswer (λ opened. opened) (verdict (D.state disk.old).now.bytes)) result }
+    ensures counts { Counts (has_tried result) (D.size_of disk.old) (D.size_of disk.new) (D.failures_of disk.old) (D.failures_of disk.new) }
+    ensures premise { WereTrue (D.reads disk.old) (D.reads disk.new) }
+    ensures kept { IsUnwritten (D.failures_of disk.old) (D.failures_of disk.new) (D.state disk.old).now (D.state disk.new).now }
+    ensures leaves { LeavesNothingNew (D.state disk.old) (D.state disk.new) }
+    ensures is { AreTrue (D.reads disk.new) → OfSteady (ReadAnswer (λ opened. opened) (verdict (D.state disk.old).now.bytes)) result }
     ensures image { IfSteady (λ answer. IfOk answer (λ opened. IsImageOf (node_before node from opened) image.new)) result }
 {
     let mut left = MAX_TRIES;

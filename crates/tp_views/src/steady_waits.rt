@@ -1,11 +1,12 @@
 //! Who waits for whom on a device that another process may be running, and since when.
 
 ghost use Rattle.std.specs.Prelude.{◌≡◌, ◌≤◌, [], ℕ, List, IfOk, Ok, length, string_bytes};
-ghost use Rattle.tp_views.specs.Lower.{areas_end, Sync, done, Counts, MAX_NODES, Opened, verdict, has_read, ReadAnswer, LeavesAlone, LeavesNothingNew};
+ghost use Rattle.tp_views.specs.Lower.{AreTrue, WereTrue, areas_end, Sync, done, Counts, MAX_NODES, Opened, verdict, has_read, ReadAnswer, LeavesAlone, LeavesNothingNew};
 ghost use Rattle.tp_views.specs.NodeMaps.{maps_seen};
+ghost use Rattle.tp_views.specs.Opens.{IsUnwritten};
 ghost use Rattle.tp_views.specs.Scene.{scene_of, seen_in};
 ghost use Rattle.tp_views.specs.Since.{opened_since};
-ghost use Rattle.tp_views.specs.Views.{IsOpenedOf, OfTold, waits_of, waits_shown, waits_told};
+ghost use Rattle.tp_views.specs.Views.{IsOpenedOf, OfTold, has_told, waits_of, waits_shown, waits_told};
 
 use crate::node_maps::NodeMaps;
 use crate::scene::{NodeSeen, Scene, scene_of};
@@ -40,9 +41,10 @@ fn since_in<D: Disk>(
 ) -> Result<Vec<NodeSince>, Unopened>
     requires { areas_end head.now.areas ≤ D.size_of disk.old }
     ensures counts { Counts (has_read result) (D.size_of disk.old) (D.size_of disk.new) (D.failures_of disk.old) (D.failures_of disk.new) }
-    ensures kept { D.keeps → LeavesAlone result (D.state disk.old).now (D.state disk.new).now }
-    ensures leaves { D.keeps → LeavesNothingNew (D.state disk.old) (D.state disk.new) }
-    ensures is { D.keeps → (o : Opened) → verdict (D.state disk.old).now.bytes ≡ Ok o → IsOpenedOf head.now second base kept.now seen.now o → ReadAnswer (λ since. since.items) (Ok (opened_since o)) result }
+    ensures premise { WereTrue (D.reads disk.old) (D.reads disk.new) }
+    ensures kept { LeavesAlone result (D.state disk.old).now (D.state disk.new).now }
+    ensures leaves { LeavesNothingNew (D.state disk.old) (D.state disk.new) }
+    ensures is { AreTrue (D.reads disk.new) → (o : Opened) → verdict (D.state disk.old).now.bytes ≡ Ok o → IsOpenedOf head.now second base kept.now seen.now o → ReadAnswer (λ since. since.items) (Ok (opened_since o)) result }
 {
     let cut = read_cut(alloc, disk, head, second, base)?;
     let wires = head.topology().wires();
@@ -75,9 +77,10 @@ fn tell_opened<D: Disk>(
 ) -> Result<String, Unopened>
     requires { areas_end opened.head.areas ≤ D.size_of disk.old }
     ensures counts { Counts (has_read result) (D.size_of disk.old) (D.size_of disk.new) (D.failures_of disk.old) (D.failures_of disk.new) }
-    ensures kept { D.keeps → LeavesAlone result (D.state disk.old).now (D.state disk.new).now }
-    ensures leaves { D.keeps → LeavesNothingNew (D.state disk.old) (D.state disk.new) }
-    ensures is { D.keeps → verdict (D.state disk.old).now.bytes ≡ Ok opened → ReadAnswer string_bytes (Ok (waits_of form (maps_seen maps.now) opened)) result }
+    ensures premise { WereTrue (D.reads disk.old) (D.reads disk.new) }
+    ensures kept { LeavesAlone result (D.state disk.old).now (D.state disk.new).now }
+    ensures leaves { LeavesNothingNew (D.state disk.old) (D.state disk.new) }
+    ensures is { AreTrue (D.reads disk.new) → verdict (D.state disk.old).now.bytes ≡ Ok opened → ReadAnswer string_bytes (Ok (waits_of form (maps_seen maps.now) opened)) result }
 {
     let (second, base) = (opened.second(), opened.base());
     let (head, network, kept) = opened.into_parts();
@@ -108,9 +111,10 @@ fn tell<D: Disk>(
     maps: &NodeMaps<'_>,
 ) -> Result<String, Unopened>
     ensures counts { Counts (has_read result) (D.size_of disk.old) (D.size_of disk.new) (D.failures_of disk.old) (D.failures_of disk.new) }
-    ensures kept { D.keeps → LeavesAlone result (done Sync (D.state disk.old).now) (D.state disk.new).now }
-    ensures leaves { D.keeps → LeavesNothingNew (D.state disk.old) (D.state disk.new) }
-    ensures is { D.keeps → ReadAnswer string_bytes (waits_told form (maps_seen maps.now) (verdict (D.state disk.old).now.bytes)) result }
+    ensures premise { WereTrue (D.reads disk.old) (D.reads disk.new) }
+    ensures kept { LeavesAlone result (done Sync (D.state disk.old).now) (D.state disk.new).now }
+    ensures leaves { LeavesNothingNew (D.state disk.old) (D.state disk.new) }
+    ensures is { AreTrue (D.reads disk.new) → ReadAnswer string_bytes (waits_told form (maps_seen maps.now) (verdict (D.state disk.old).now.bytes)) result }
 {
     let opened = open(alloc, disk)?;
     tell_opened(alloc, disk, form, maps, opened)
@@ -118,10 +122,11 @@ fn tell<D: Disk>(
 
 /// Says it between two looks, as `open_once` opens.
 fn tell_once<D: Disk>(alloc: Global, disk: &mut D, form: WaitsForm, maps: &NodeMaps<'_>) -> Told
-    ensures leaves { D.keeps → LeavesNothingNew (D.state disk.old) (D.state disk.new) }
-    ensures counts { D.keeps → OfTold (λ answer. Counts (has_read answer) (D.size_of disk.old) (D.size_of disk.new) (D.failures_of disk.old) (D.failures_of disk.new)) result }
-    ensures kept { D.keeps → OfTold (λ answer. LeavesAlone answer (done Sync (D.state disk.old).now) (D.state disk.new).now) result }
-    ensures is { D.keeps → OfTold (ReadAnswer string_bytes (waits_told form (maps_seen maps.now) (verdict (D.state disk.old).now.bytes))) result }
+    ensures counts { Counts (has_told result) (D.size_of disk.old) (D.size_of disk.new) (D.failures_of disk.old) (D.failures_of disk.new) }
+    ensures premise { WereTrue (D.reads disk.old) (D.reads disk.new) }
+    ensures kept { IsUnwritten (D.failures_of disk.old) (D.failures_of disk.new) (D.state disk.old).now (D.state disk.new).now }
+    ensures leaves { LeavesNothingNew (D.state disk.old) (D.state disk.new) }
+    ensures is { AreTrue (D.reads disk.new) → OfTold (ReadAnswer string_bytes (waits_told form (maps_seen maps.now) (verdict (D.state disk.old).now.bytes))) result }
 {
     let Ok(before) = look(disk) else {
         return Told::Steady(Err(Unopened::ReadFailed));
@@ -145,10 +150,11 @@ pub(crate) fn tell_steady<D: Disk>(
     form: WaitsForm,
     maps: &NodeMaps<'_>,
 ) -> Told
-    ensures leaves { D.keeps → LeavesNothingNew (D.state disk.old) (D.state disk.new) }
-    ensures counts { D.keeps → OfTold (λ answer. Counts (has_read answer) (D.size_of disk.old) (D.size_of disk.new) (D.failures_of disk.old) (D.failures_of disk.new)) result }
-    ensures kept { D.keeps → OfTold (λ answer. LeavesAlone answer (done Sync (D.state disk.old).now) (D.state disk.new).now) result }
-    ensures is { D.keeps → OfTold (ReadAnswer string_bytes (waits_told form (maps_seen maps.now) (verdict (D.state disk.old).now.bytes))) result }
+    ensures counts { Counts (has_told result) (D.size_of disk.old) (D.size_of disk.new) (D.failures_of disk.old) (D.failures_of disk.new) }
+    ensures premise { WereTrue (D.reads disk.old) (D.reads disk.new) }
+    ensures kept { IsUnwritten (D.failures_of disk.old) (D.failures_of disk.new) (D.state disk.old).now (D.state disk.new).now }
+    ensures leaves { LeavesNothingNew (D.state disk.old) (D.state disk.new) }
+    ensures is { AreTrue (D.reads disk.new) → OfTold (ReadAnswer string_bytes (waits_told form (maps_seen maps.now) (verdict (D.state disk.old).now.bytes))) result }
 {
     let mut left = MAX_TRIES;
     while left > 0 {

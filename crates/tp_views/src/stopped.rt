@@ -1,11 +1,12 @@
 //! Which nodes have halted. It is said after a run or a trial.
 
 use crate::commands::TRY_QUANTUM;
+use crate::looking::open_to_read;
 use std::alloc::Global;
 use std::fs::{self, Files, OpenFile};
 use std::io::Write;
 use std::os::unix::fs::FileExt;
-use tp_disk::{Counted, Disk, NotedFile, RawFile};
+use tp_disk::Disk;
 use tp_model::limits::MAX_NODES;
 use tp_node::{Node, Standing};
 use tp_recover::open;
@@ -40,8 +41,7 @@ fn tell_run<R: Files<File = F> + AllocGlobal, F: FileExt + OpenFile + Drop, E: W
     device: &str,
     err: &mut E,
 ) {
-    let disk: Result<Counted<RawFile<NotedFile<F>>>, _> = Counted::open_to_read(rt, device);
-    if let Ok(mut disk) = disk {
+    if let Ok(mut disk) = open_to_read(rt, device) {
         tell_opened(rt.alloc(), &mut disk, err);
     }
 }

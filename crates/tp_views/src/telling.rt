@@ -1,17 +1,16 @@
 //! `tpnet status`: one check of a device.
 
 ghost use Rattle.std.specs.Prelude.{◌≡◌, ◌⊎◌, IfErr, IfOk, IsErr, OnOk};
-ghost use Rattle.tp_views.specs.Lower.{Appends, verdict, LeavesNothingNew};
+ghost use Rattle.tp_views.specs.Lower.{AreTrue, WereTrue, Appends, verdict, LeavesNothingNew};
 ghost use Rattle.tp_views.specs.Front.{AppendsFront, PrintsFront};
 ghost use Rattle.tp_views.specs.Looks.{StatusTells};
 ghost use Rattle.tp_views.specs.Opens.{IsUnwritten};
-ghost use Rattle.tp_views.specs.JsonStatus.{look_text};
-ghost use Rattle.tp_views.specs.Status.{IsSeen};
+ghost use Rattle.tp_views.specs.Status.{IsSeen, look_text};
 
 use crate::commands::{put, refuse};
-use crate::json_status::look_text;
 use crate::refusal::Refusal;
 use crate::status::{Seen, seen_of};
+use crate::status_text::look_text;
 use crate::steady::{Tried, open_steady};
 use std::alloc::Global;
 use std::io::Write;
@@ -70,11 +69,12 @@ fn look<D: Disk, O: Write>(
     json: bool,
     out: &mut O,
 ) -> Result<Seen, Refusal>
-    ensures done { D.keeps → IfOk result (StatusTells json held at clock before.now (D.state disk.old).now.bytes (O.contents out.old) (O.contents out.new)) }
-    ensures leaves { D.keeps → LeavesNothingNew (D.state disk.old) (D.state disk.new) }
-    ensures front { D.keeps → PrintsFront (look_text json held at clock before.now) (D.state disk.old).now.bytes (O.contents out.old) (O.contents out.new) }
-    ensures kept { D.keeps → IsUnwritten (D.failures_of disk.old) (D.failures_of disk.new) (D.state disk.old).now (D.state disk.new).now }
-    ensures refused { D.keeps → IsErr (verdict (D.state disk.old).now.bytes) → (IsErr result) × (O.contents out.new ≡ O.contents out.old) }
+    ensures done { AreTrue (D.reads disk.new) → IfOk result (StatusTells json held at clock before.now (D.state disk.old).now.bytes (O.contents out.old) (O.contents out.new)) }
+    ensures premise { WereTrue (D.reads disk.old) (D.reads disk.new) }
+    ensures leaves { LeavesNothingNew (D.state disk.old) (D.state disk.new) }
+    ensures front { AreTrue (D.reads disk.new) → PrintsFront (look_text json held at clock before.now) (D.state disk.old).now.bytes (O.contents out.old) (O.contents out.new) }
+    ensures kept { IsUnwritten (D.failures_of disk.old) (D.failures_of disk.new) (D.state disk.old).now (D.state disk.new).now }
+    ensures refused { AreTrue (D.reads disk.new) → IsErr (verdict (D.state disk.old).now.bytes) → (IsErr result) × (O.contents out.new ≡ O.contents out.old) }
 {
     let Tried::Steady(answer) = open_steady(alloc, disk) else {
         return Err(Refusal::Busy);
@@ -104,11 +104,12 @@ pub fn status_on<D: Disk, O: Write, E: Write>(
     err: &mut E,
 ) -> Result<Seen, u8>
     ensures status { IfErr result (λ status. status ≡ 1) }
-    ensures done { D.keeps → IfOk result (StatusTells json held at clock before.now (D.state disk.old).now.bytes (O.contents out.old) (O.contents out.new)) }
-    ensures leaves { D.keeps → LeavesNothingNew (D.state disk.old) (D.state disk.new) }
-    ensures front { D.keeps → PrintsFront (look_text json held at clock before.now) (D.state disk.old).now.bytes (O.contents out.old) (O.contents out.new) }
-    ensures kept { D.keeps → IsUnwritten (D.failures_of disk.old) (D.failures_of disk.new) (D.state disk.old).now (D.state disk.new).now }
-    ensures refused { D.keeps → IsErr (verdict (D.state disk.old).now.bytes) → (IsErr result) × (O.contents out.new ≡ O.contents out.old) }
+    ensures done { AreTrue (D.reads disk.new) → IfOk result (StatusTells json held at clock before.now (D.state disk.old).now.bytes (O.contents out.old) (O.contents out.new)) }
+    ensures premise { WereTrue (D.reads disk.old) (D.reads disk.new) }
+    ensures leaves { LeavesNothingNew (D.state disk.old) (D.state disk.new) }
+    ensures front { AreTrue (D.reads disk.new) → PrintsFront (look_text json held at clock before.now) (D.state disk.old).now.bytes (O.contents out.old) (O.contents out.new) }
+    ensures kept { IsUnwritten (D.failures_of disk.old) (D.failures_of disk.new) (D.state disk.old).now (D.state disk.new).now }
+    ensures refused { AreTrue (D.reads disk.new) → IsErr (verdict (D.state disk.old).now.bytes) → (IsErr result) × (O.contents out.new ≡ O.contents out.old) }
 {
     match look(alloc, disk, held, at, clock, before, json, out) {
         Ok(seen) => Ok(seen),

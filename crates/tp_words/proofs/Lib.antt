@@ -1,4 +1,5 @@
 pub mod Lower
+pub mod Asking
 pub mod Faults
 pub mod OfEnds
 pub mod OfNumbers

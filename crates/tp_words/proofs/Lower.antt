@@ -10,6 +10,7 @@ pub use Rattle.std.proofs.lemmas.Slice.Eq.{bytes_eq-Decides}
 pub use Rattle.std.proofs.lemmas.Str.Pattern.{IsSplitOnceResult, split_after}
 pub use Rattle.std.specs.Cmp.Lexicographic.{pointwise}
 pub use Rattle.std.specs.Fmt.{decimal}
+pub use Rattle.std.specs.List.{starts_with}
 pub use Rattle.std.specs.Option.{MatchOption, option_map, option_or}
 pub use Rattle.std.specs.Str.Pattern.{FindsTextPrefix, StripsPrefix}
 pub use Rattle.std.specs.declared.alloc.Global.{Global}

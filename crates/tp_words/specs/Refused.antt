@@ -1,5 +1,5 @@
 -- Why a line asks for nothing.
-use Rattle.std.specs.Prelude.{◌≡◌, ◌≢◌, ◌⊎◌, ◌<◌, ℕ, true, false, List, [], ◌∷◌, Option, Some, None, codes, length}
+use Rattle.std.specs.Prelude.{◌≡◌, ◌≢◌, ◌⊎◌, ◌<◌, ◌≤◌, ℕ, true, false, List, [], ◌∷◌, Option, Some, None, codes, drop, length}
 use Rattle.tp_words.specs.Lower.{decimal, Global, String}
 use Rattle.tp_words.specs.declared.arg_fault.ArgFault.{ArgFault}
 use Rattle.tp_words.specs.declared.arg_fault.ArgFault.TheVariants.{Words, Order, Many, Stream, BothExplain, Missing, Memory}
@@ -10,7 +10,7 @@ use Rattle.tp_words.specs.declared.words.Name.{Name}
 use Rattle.tp_words.specs.declared.words.Name.TheVariants as of
 use Rattle.tp_words.specs.Explaining.{explaining_typed}
 use Rattle.tp_words.specs.Given.{all_given, given, has_flag, IsGivenOr}
-use Rattle.tp_words.specs.Lines.{Taken, taken}
+use Rattle.tp_words.specs.Lines.{Taken, asks_help, is_used, taken}
 use Rattle.tp_words.specs.Numbers.{IsFirstNumberFault, IsNumberFault, IsPlaceFault, every_option, image_options, journal_options, recover_option, run_options, stop_option, trace_options, turns_option, wait_option}
 use Rattle.tp_words.specs.Parsing.{IsMistake}
 use Rattle.tp_words.specs.Size.{IsAreaFault}
@@ -107,13 +107,12 @@ IsLineRefused name words places fault = IsOtherRefused name words places fault
 abbrev pub IsTakenRefused : Taken → List (String Global) → CommandFault → Type 0
 IsTakenRefused line words fault = IsLineRefused line.name words line.places fault
 
--- What is told of a line that no command takes: what `clap` says of it, that it is too long, that an option goes with `--stream`, or that a word is
--- missing.
+-- What is told of a line that no command takes: what `clap` says of it, that an option of it goes with `--stream`, or that a word is missing. A line that
+-- asks for help isn't told that a word is missing.
 abbrev pub IsUntaken : List (String Global) → ArgFault → Type 0
 IsUntaken words (Words error) = IsMistake error
-IsUntaken words Many = MAX_WORDS < length words
-IsUntaken words (Stream id) = Unit {0}
-IsUntaken words Missing = Unit {0}
+IsUntaken words (Stream id) = is_used id.now (drop 1 words) ≡ true
+IsUntaken words Missing = asks_help words ≡ false
 IsUntaken words Memory = Unit {0}
 IsUntaken words _ = ⊥
 
@@ -125,8 +124,14 @@ abbrev pub IsRefusedBy : Option Taken → List (String Global) → CommandFault 
 IsRefusedBy None words fault = IsUntakenRefused words fault
 IsRefusedBy (Some line) words fault = IsTakenRefused line words fault
 
--- Why a line asks for nothing: memory ran out; or no command takes it; or one does, but not with these values; or both words for explanations are
--- there.
+-- Why a line of at most `MAX_WORDS` words asks for nothing: memory ran out; or no command takes it; or one does, but not with these values; or both words
+-- for explanations are there, and the line doesn't ask for help.
+abbrev pub IsRefusedShort : List (String Global) → CommandFault → Type 0
+IsRefusedShort words fault =
+    (fault ≡ Arg Memory) ⊎ IsRefusedBy (taken words) words fault
+    ⊎ ((fault ≡ Arg BothExplain) × (explaining_typed words ≡ None) × (asks_help words ≡ false))
+
+-- Why a line asks for nothing. If it has more words, just that is told.
 abbrev pub IsRefusedLine : List (String Global) → CommandFault → Type 0
 IsRefusedLine words fault =
-    (fault ≡ Arg Memory) ⊎ IsRefusedBy (taken words) words fault ⊎ ((fault ≡ Arg BothExplain) × (explaining_typed words ≡ None))
+    ((fault ≡ Arg Many) × (MAX_WORDS < length words)) ⊎ (IsRefusedShort words fault × (length words ≤ MAX_WORDS))

@@ -10,7 +10,7 @@ ghost use Rattle.tp_words.specs.declared.arg_fault.ArgFault.TheVariants.{Memory}
 ghost use Rattle.tp_words.specs.declared.command.CommandFault.TheVariants.{Arg, Ends};
 
 use crate::arg_fault::ArgFault;
-use crate::args::{Asked, asked_by};
+use crate::args::{Asked, MAX_WORDS, asked_by};
 use crate::backup_args::{Backup, backup_of};
 use crate::explaining::{Explaining, explaining_of};
 use crate::line::taken;
@@ -154,15 +154,19 @@ fn is_help(command: &Command) -> bool
 }
 
 impl CommandLine {
-    /// Reads a command line, the program's name first. A line asks for a command just if a command takes it, and for help only if a word asks for it.
+    /// Reads a command line, the program's name first. A line asks for a command just if a command takes it, and for help just if a word asks for it.
     /// Each number is the decimal that was typed, and in its range; each text is what was typed.
     pub fn read(alloc: Global, words: &[String]) -> Result<CommandLine, CommandFault>
         ensures range { IfOk result (λ line. IsCommandInRange line.command) }
         ensures typed { IfOk result (λ line. WasCommandTyped words.now line.command) }
         ensures places { IfOk result (λ line. HasCommandPlaces words.now line.command) }
+        ensures help { IfOk result (λ line. is_help line.command ≡ asks_help words.now) }
         ensures explains { IfOk result (λ line. SaysExplaining words.now line.command line.explaining) }
         ensures refused { IfErr result (IsRefusedLine words.now) }
     {
+        if words.len() > MAX_WORDS {
+            return Err(CommandFault::Arg(ArgFault::Many));
+        }
         let command = read_command(alloc, words)?;
         let explaining = match explaining_of(words) {
             Some(explaining) => explaining,

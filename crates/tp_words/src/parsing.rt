@@ -7,7 +7,6 @@ ghost use Rattle.tp_words.specs.Parsing.{IsMistake};
 ghost use Rattle.tp_words.specs.Refused.{IsUntaken};
 
 use crate::arg_fault::ArgFault;
-use crate::args::MAX_WORDS;
 use crate::line::asks_help;
 use crate::shown::shown_words;
 use crate::words::{Name, command};
@@ -84,10 +83,9 @@ pub fn untaken(alloc: Global, words: &[String], names: &[Name]) -> Result<String
     ensures help { OnOk result (asks_help words.now ≡ true) }
     ensures refused { IfErr result (IsUntaken words.now) }
 {
-    if words.len() > MAX_WORDS {
-        return Err(ArgFault::Many);
-    }
-    match command(alloc, names)?.try_get_matches_from(words) {
+    let mut command = command(alloc, names)?;
+    match command.try_get_matches_from_mut(words) {
+        Ok(_matches) if asks_help(words) => Ok(command.render_help()?),
         Ok(_matches) => Err(ArgFault::Missing),
         Err(error) => unfound(alloc, words, names, error),
     }

@@ -1,5 +1,8 @@
 //! The words that `clap` takes with `run --stream`.
 
+ghost use Rattle.std.specs.Prelude.{◌≡◌, true, IfSome, drop};
+ghost use Rattle.tp_words.specs.Lines.{is_used};
+
 use crate::forms::{EXPLAIN, NO_EXPLAIN, WAIT_LOCK, WRITTEN};
 use crate::numbers::after_first;
 use crate::rules::is_used;
@@ -61,7 +64,9 @@ pub fn are_of_run(words: &[String]) -> bool {
 }
 
 /// An option among the words of `run` that it has with `--stream` alone.
-pub fn stream_option(words: &[String]) -> Option<&'static str> {
+pub fn stream_option(words: &[String]) -> Option<&'static str>
+    ensures { IfSome result (λ id. is_used id.now (drop 1 words.now) ≡ true) }
+{
     if !are_of_run(words) {
         return None;
     }

@@ -25,9 +25,9 @@ returns-clause-answer g c =
     (subst (λ pages. Checks (fresh_nodes pages images) (Ok tt)) c.pages.ensures.value c.in_ok-check_images.ensures) large
 
 pub returns-clause-formatted : goal.returns-clause-formatted
-returns-clause-formatted g c k =
+returns-clause-formatted g c =
     let t = c.args.topology.now in
-    let whole = g.met.D.Disk.whole k c.args.disk.now in
+    let whole = g.met.D.Disk.whole c.args.disk.now in
     let old = g.D.Disk.state c.args.disk.now in
     let new = g.D.Disk.state c.write_all.new.disk in
     let areas = c.areas_of_length-areas.result in
@@ -38,30 +38,30 @@ returns-clause-formatted g c k =
     c.pages.ensures.value c.in_ok-check_images.ensures large (ap (λ (a : TwoAreas). a.first) are) (whole ∙ sym c.size.ensures)
     (c.as_slice.ensures.value ∙ c.head_bytes-head.ensures.bytes ∙ ap (λ v. head_bytes v t areas) c.version_for-version.ensures.value)
     (ap length c.as_slice.ensures.value ∙ c.head_bytes-head.ensures.len)
-    c.lengths_of-lengths.ensures.cut c.lengths_of-lengths.ensures.rest (c.in-Ok.ensures.wrote k))
+    c.lengths_of-lengths.ensures.cut c.lengths_of-lengths.ensures.rest c.in-Ok.ensures.wrote)
 
 pub returns-in_err-check_images-clause-leaves : goal.returns-in_err-check_images-clause-leaves
-returns-in_err-check_images-clause-leaves g c k = early_leaves c.args.topology.now (map items c.args.images.now) (areas_of_length (version_for c.args.topology.now) c.args.area) (g.D.Disk.state c.args.disk.now)
+returns-in_err-check_images-clause-leaves g c = early_leaves c.args.topology.now (map items c.args.images.now) (areas_of_length (version_for c.args.topology.now) c.args.area) (g.D.Disk.state c.args.disk.now)
 
 pub returns-then-not-fits-clause-leaves : goal.returns-then-not-fits-clause-leaves
-returns-then-not-fits-clause-leaves g c k = early_leaves c.args.topology.now (map items c.args.images.now) (areas_of_length (version_for c.args.topology.now) c.args.area) (g.D.Disk.state c.args.disk.now)
+returns-then-not-fits-clause-leaves g c = early_leaves c.args.topology.now (map items c.args.images.now) (areas_of_length (version_for c.args.topology.now) c.args.area) (g.D.Disk.state c.args.disk.now)
 
 pub returns-in_default-clause-leaves : goal.returns-in_default-clause-leaves
-returns-in_default-clause-leaves g c k =
+returns-in_default-clause-leaves g c =
     let t = c.args.topology.now in
     let old = g.D.Disk.state c.args.disk.now in
     let new = g.D.Disk.state c.write_all.new.disk in
     let are = c.areas_of_length-areas.ensures ∙ ap (λ v. areas_of_length v c.args.area) c.version_for-version.ensures.value in
     subst (λ a. LeavesOnly old new (IsOldOrNew t (map items c.args.images.now) a old)) are
     (format_leaves items t c.args.images.now c.pages.result.now c.areas_of_length-areas.result c.lengths_of-lengths.result.cut c.lengths_of-lengths.result.rest old new c.pages.ensures.value c.in_ok-check_images.ensures
-    c.lengths_of-lengths.ensures.cut c.lengths_of-lengths.ensures.rest (c.write_all.ensures.leaves k))
+    c.lengths_of-lengths.ensures.cut c.lengths_of-lengths.ensures.rest c.write_all.ensures.leaves)
 
 pub returns-clause-leaves : goal.returns-clause-leaves
-returns-clause-leaves g c k =
+returns-clause-leaves g c =
     let t = c.args.topology.now in
     let old = g.D.Disk.state c.args.disk.now in
     let new = g.D.Disk.state c.write_all.new.disk in
     let are = c.areas_of_length-areas.ensures ∙ ap (λ v. areas_of_length v c.args.area) c.version_for-version.ensures.value in
     subst (λ a. LeavesOnly old new (IsOldOrNew t (map items c.args.images.now) a old)) are
     (format_leaves items t c.args.images.now c.pages.result.now c.areas_of_length-areas.result c.lengths_of-lengths.result.cut c.lengths_of-lengths.result.rest old new c.pages.ensures.value c.in_ok-check_images.ensures
-    c.lengths_of-lengths.ensures.cut c.lengths_of-lengths.ensures.rest (c.write_all.ensures.leaves k))
+    c.lengths_of-lengths.ensures.cut c.lengths_of-lengths.ensures.rest c.write_all.ensures.leaves)

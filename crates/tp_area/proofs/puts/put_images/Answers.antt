@@ -24,28 +24,29 @@ loop-image-preserved g c =
       place = omega (arith, image_place items images i image c.loop-image-test.true c.image-item.is, c.loop-image.invariant.place);
       size = search rules;
       failures = search rules;
-      put = λ k.
+      unread = search rules;
+      put =
           let s = g.D.Disk.state c.args.disk.now in
           let t = g.D.Disk.state c.loop-image.disk in
           let u = g.D.Disk.state c.put_piece.new.disk in
-          let room : c.args.at ≤ length s.now.bytes = omega (arith, c.requires.inside, g.met.D.Disk.whole k c.args.disk.now) in
+          let room : c.args.at ≤ length s.now.bytes = omega (arith, c.requires.inside, g.met.D.Disk.whole c.args.disk.now) in
           let here : Puts c.loop-image.place (items image) t u =
-          puts_same c.loop-image.place c.deref.result.now (items image) t u c.deref.ensures.value (c.in_ok-put_piece.ensures.put k) in
+          puts_same c.loop-image.place c.deref.result.now (items image) t u c.deref.ensures.value c.in_ok-put_piece.ensures.put in
           image_puts items images i image c.args.at c.loop-image.place s t u c.loop-image-test.true c.image-item.is room
-          c.loop-image.invariant.place (c.loop-image.invariant.put k) here;
-      leaves = λ k.
+          c.loop-image.invariant.place c.loop-image.invariant.put here;
+      leaves =
           image_leaves items images i image c.deref.result.now c.args.at c.loop-image.place (g.D.Disk.state c.args.disk.now) (g.D.Disk.state c.loop-image.disk) (g.D.Disk.state c.put_piece.new.disk)
-          c.loop-image-test.true c.image-item.is c.deref.ensures.value c.loop-image.invariant.place (c.loop-image.invariant.leaves k) (c.put_piece.ensures.leaves k);
+          c.loop-image-test.true c.image-item.is c.deref.ensures.value c.loop-image.invariant.place c.loop-image.invariant.leaves c.put_piece.ensures.leaves;
     }
 
 pub returns-in_err-put_piece-clause-leaves : goal.returns-in_err-put_piece-clause-leaves
-returns-in_err-put_piece-clause-leaves g c k =
+returns-in_err-put_piece-clause-leaves g c =
     image_leaves items c.args.images.now c.loop-image.image-index c.image-item.result c.deref.result.now c.args.at c.loop-image.place
     (g.D.Disk.state c.args.disk.now) (g.D.Disk.state c.loop-image.disk) (g.D.Disk.state c.put_piece.new.disk)
-    c.loop-image-test.true c.image-item.is c.deref.ensures.value c.loop-image.invariant.place (c.loop-image.invariant.leaves k) (c.put_piece.ensures.leaves k)
+    c.loop-image-test.true c.image-item.is c.deref.ensures.value c.loop-image.invariant.place c.loop-image.invariant.leaves c.put_piece.ensures.leaves
 
 pub returns-clause-put : goal.returns-clause-put
-returns-clause-put g c k =
+returns-clause-put g c =
     let images = c.args.images.now in
     puts_same c.args.at (flat_map items (take c.loop-image.image-index images)) (flat_map items images) (g.D.Disk.state c.args.disk.now) (g.D.Disk.state c.loop-image.disk)
-    (ap (flat_map items) (take_all c.loop-image.image-index images (omega (arith, c.loop-image-test.false)))) (c.loop-image.invariant.put k)
+    (ap (flat_map items) (take_all c.loop-image.image-index images (omega (arith, c.loop-image-test.false)))) c.loop-image.invariant.put

@@ -9,7 +9,8 @@ invariant-loop-image g l = record {
   place : l.place ≡ l.at + length (flat_map (λ image. image.items) (take l.image-index l.images));
   size : g.D.Disk.size_of l.disk ≡ g.D.Disk.size_of l.initial.disk;
   failures : g.D.Disk.failures_of l.disk ≡ g.D.Disk.failures_of l.initial.disk;
-  put : g.D.Disk.keeps → Puts l.at (flat_map (λ image. image.items) (take l.image-index l.images)) (g.D.Disk.state l.initial.disk) (g.D.Disk.state l.disk);
-  leaves : g.D.Disk.keeps → LeavesOnly (g.D.Disk.state l.initial.disk) (g.D.Disk.state l.disk)
+  unread : g.D.Disk.reads l.disk ≡ g.D.Disk.reads l.initial.disk;
+  put : Puts l.at (flat_map (λ image. image.items) (take l.image-index l.images)) (g.D.Disk.state l.initial.disk) (g.D.Disk.state l.disk);
+  leaves : LeavesOnly (g.D.Disk.state l.initial.disk) (g.D.Disk.state l.disk)
       (ButFor l.at (length (flat_map (λ image. image.items) l.images)) (g.D.Disk.state l.initial.disk).now);
 }

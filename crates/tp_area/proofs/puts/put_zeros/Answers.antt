@@ -8,15 +8,16 @@ loop-left-preserved g c = record {
   some = omega arith;
   size = search rules;
   failures = search rules;
-  put = λ k.
+  unread = search rules;
+  put =
       let s = g.D.Disk.state c.args.disk.now in
-      let whole = g.met.D.Disk.whole k c.args.disk.now in
+      let whole = g.met.D.Disk.whole c.args.disk.now in
       let room : c.args.at + c.args.count ≤ length s.now.bytes = omega (arith, c.requires.inside, whole) in
       zeros_more c.args.at c.args.count c.loop-left.left c.min-size.result _ s (g.D.Disk.state c.loop-left.disk) (g.D.Disk.state c.put_piece.new.disk)
-      room c.loop-left.invariant.some (omega arith) (take-replicate c.min-size.result 4096 0 (omega arith)) (c.loop-left.invariant.put k) (c.in_ok-put_piece.ensures.put k);
-  leaves = λ k.
+      room c.loop-left.invariant.some (omega arith) (take-replicate c.min-size.result 4096 0 (omega arith)) c.loop-left.invariant.put c.in_ok-put_piece.ensures.put;
+  leaves =
       zeros_leave c.args.at c.args.count c.loop-left.left c.min-size.result _ (g.D.Disk.state c.args.disk.now) (g.D.Disk.state c.loop-left.disk) (g.D.Disk.state c.put_piece.new.disk)
-      c.loop-left.invariant.some (omega arith) (take-replicate c.min-size.result 4096 0 (omega arith)) (c.loop-left.invariant.leaves k) (c.put_piece.ensures.leaves k);
+      c.loop-left.invariant.some (omega arith) (take-replicate c.min-size.result 4096 0 (omega arith)) c.loop-left.invariant.leaves c.put_piece.ensures.leaves;
 }
 
 pub loop-left-init : goal.loop-left-init
@@ -24,13 +25,14 @@ loop-left-init g c = record {
   some = omega arith;
   size = search rules;
   failures = search rules;
-  put = λ k.
+  unread = search rules;
+  put =
       puts_same c.args.at [] (zeros (c.args.count - c.args.count)) (g.D.Disk.state c.args.disk.now) (g.D.Disk.state c.args.disk.now)
       (let none : 0 ≡ c.args.count - c.args.count = omega arith in ap zeros none) (puts_none c.args.at (g.D.Disk.state c.args.disk.now));
-  leaves = λ k. none_leaves c.args.at c.args.count (g.D.Disk.state c.args.disk.now);
+  leaves = none_leaves c.args.at c.args.count (g.D.Disk.state c.args.disk.now);
 }
 
 pub returns-in_err-put_piece-clause-leaves : goal.returns-in_err-put_piece-clause-leaves
-returns-in_err-put_piece-clause-leaves g c k =
+returns-in_err-put_piece-clause-leaves g c =
     zeros_leave c.args.at c.args.count c.loop-left.left c.min-size.result _ (g.D.Disk.state c.args.disk.now) (g.D.Disk.state c.loop-left.disk) (g.D.Disk.state c.put_piece.new.disk)
-    c.loop-left.invariant.some (omega arith) (take-replicate c.min-size.result 4096 0 (omega arith)) (c.loop-left.invariant.leaves k) (c.put_piece.ensures.leaves k)
+    c.loop-left.invariant.some (omega arith) (take-replicate c.min-size.result 4096 0 (omega arith)) c.loop-left.invariant.leaves c.put_piece.ensures.leaves

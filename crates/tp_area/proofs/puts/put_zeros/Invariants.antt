@@ -8,8 +8,9 @@ invariant-loop-left g l = record {
   some : l.left ≤ l.count;
   size : g.D.Disk.size_of l.disk ≡ g.D.Disk.size_of l.initial.disk;
   failures : g.D.Disk.failures_of l.disk ≡ g.D.Disk.failures_of l.initial.disk;
-  put : g.D.Disk.keeps → Puts l.at (zeros (l.count - l.left)) (g.D.Disk.state l.initial.disk) (g.D.Disk.state l.disk);
-  leaves : g.D.Disk.keeps → LeavesOnly (g.D.Disk.state l.initial.disk) (g.D.Disk.state l.disk) (ButFor l.at l.count (g.D.Disk.state l.initial.disk).now);
+  unread : g.D.Disk.reads l.disk ≡ g.D.Disk.reads l.initial.disk;
+  put : Puts l.at (zeros (l.count - l.left)) (g.D.Disk.state l.initial.disk) (g.D.Disk.state l.disk);
+  leaves : LeavesOnly (g.D.Disk.state l.initial.disk) (g.D.Disk.state l.disk) (ButFor l.at l.count (g.D.Disk.state l.initial.disk).now);
 }
 
 abbrev pub decreases-loop-left : goal.decreases-loop-left

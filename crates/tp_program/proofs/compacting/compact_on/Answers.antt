@@ -19,7 +19,7 @@ unopened_done : (done : Result Compaction CompactFault) → (unopened : Unopened
 unopened_done done (unopened, same) = rw same (refl, tt)
 
 pub returns-clause-unopened : goal.returns-clause-unopened
-returns-clause-unopened g c keeps refused =
-    let ends = unopened_done c.compact-disk.result.1 (c.compact-disk.ensures.unopened keeps refused) in
+returns-clause-unopened g c premise refused =
+    let ends = unopened_done c.compact-disk.result.1 (c.compact-disk.ensures.unopened premise refused) in
     let said = c.report.ensures.refused ends.0 in
-    (said.0, c.compact-disk.ensures.unwritten keeps ends.1, said.1)
+    (said.0, c.compact-disk.ensures.unwritten ends.1, said.1)

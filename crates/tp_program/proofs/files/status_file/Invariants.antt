@@ -8,5 +8,5 @@ abbrev pub invariant-looks : goal.invariant-looks
 invariant-looks g l = record {
   uncalled : g.S.Devices.calls l.devices ≡ g.S.Devices.calls l.fn.devices;
   some : IsSome l.before;
-  looks : HaveLooked g.D.Disk.keeps l.json l.device (g.S.Devices.uses l.fn.devices) (g.O.Write.contents l.fn.out) (g.S.Devices.uses l.devices) (g.O.Write.contents l.out) l.before;
+  looks : HaveLooked l.json l.device (g.S.Devices.uses l.fn.devices) (g.O.Write.contents l.fn.out) (g.S.Devices.uses l.devices) (g.O.Write.contents l.out) l.before;
 }

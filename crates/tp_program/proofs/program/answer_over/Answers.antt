@@ -15,6 +15,7 @@ returns-in-Ok-clause-answered g c = inr (record {
   command = c.in-Ok.line.command;
   typed = c.in-Ok.ensures.typed;
   places = c.in-Ok.ensures.places;
+  help = c.in-Ok.ensures.help;
   few = c.answer_command.ensures.few;
   done = c.answer_command.ensures.done;
   files = c.answer_command.ensures.used;

@@ -1,8 +1,9 @@
 use Rattle.std.proofs.Common.{◌≡◌, ◌∙◌, [], ap, rules, sym, subst, Ok, Err, Result}
-use Rattle.tp_program.proofs.Lower.{Unopened, Ended, StreamFault, Opening, StreamLeft}
+use Rattle.std.specs.Prelude.{string_bytes}
+use Rattle.tp_program.proofs.Lower.{Unopened, Ended, StreamFault, Opening, HaveOwnPaths, path_from}
 use denote.Param.Send.{sendable}
 use contract.BorrowLft.{◌⊑◌, ⊑_meet, ⊑_static}
-use Rattle.tp_program.proofs.Ends.{ends_streamed, ends_unopened, ends_unwritten}
+use Rattle.tp_program.proofs.Ends.{ends_own, ends_streamed, ends_unopened, ends_unwritten, got_named}
 use Rattle.tp_program.proofs.streaming.stream_files.Goals as goal
 
 -- the fault of a stream that ended early
@@ -39,26 +40,32 @@ stream_opened-disk-requires g c κs within =
     (within.1.0, (within.1.1.0, (sinks, (sources, (within.1.1.1.1.1.1.1.0, (within.1.1.1.1.1.1.1.1.0, (within.1.1.1.1.1.1.1.1.1.0, (within.1.1.1.1.1.1.1.1.1.1.0, (search (rules, sendable, crosses), (search (rules, sendable, shared), c.requires.1.1.1.1.1.1.1.1.1.1.1))))))))))
 
 pub returns-in-Err-clause-streamed : goal.returns-in-Err-clause-streamed
-returns-in-Err-clause-streamed g c keeps began = ends_streamed g.history.formatted c.in-Err.fault (g.D.Disk.state c.args.disk) c.in-Err.ensures
+returns-in-Err-clause-streamed g c premise began = ends_streamed g.history.formatted c.args.asked.now.ends c.in-Err.fault (g.D.Disk.state c.args.disk) c.in-Err.ensures.fault
 
 pub returns-in-Err-clause-unwritten : goal.returns-in-Err-clause-unwritten
-returns-in-Err-clause-unwritten g c keeps = ends_unwritten c.in-Err.fault (g.D.Disk.state c.args.disk) c.in-Err.ensures
+returns-in-Err-clause-unwritten g c = ends_unwritten c.in-Err.fault (g.D.Disk.state c.args.disk) c.in-Err.ensures.fault
 
 pub returns-in-Err-clause-unopened : goal.returns-in-Err-clause-unopened
-returns-in-Err-clause-unopened g c keeps refused = ends_unopened c.in-Err.fault c.in-Err.ensures
+returns-in-Err-clause-unopened g c premise refused = ends_unopened c.in-Err.fault c.in-Err.ensures.fault
+
+pub returns-in-Err-clause-own : goal.returns-in-Err-clause-own
+returns-in-Err-clause-own g c =
+    let run = c.args.asked.now in
+    ends_own c.in-Err.fault (HaveOwnPaths (string_bytes run.device) run.ends.outs.items run.ends.ins.items) c.in-Err.ensures.fault
 
 pub returns-clause-unopened : goal.returns-clause-unopened
-returns-clause-unopened g c keeps refused =
-    same_fault c.stream_opened-disk.result.1 c.in-Err-done.fault c.in-Err-done.is (c.stream_opened-disk.ensures.unopened keeps refused)
+returns-clause-unopened g c premise refused =
+    same_fault c.stream_opened-disk.result.1 c.in-Err-done.fault c.in-Err-done.is (c.stream_opened-disk.ensures.unopened premise refused)
 
+-- what the outputs got that were opened, and the stream's answer
 pub returns-in-Ok-done-clause-streamed : goal.returns-in-Ok-done-clause-streamed
-returns-in-Ok-done-clause-streamed g c keeps began =
-    subst
-    (λ (done : Result Ended StreamFault). StreamLeft g.history.formatted done (g.D.Disk.state c.args.disk) (g.D.Disk.state c.stream_opened-disk.result.0))
-    c.in-Ok-done.is (c.stream_opened-disk.ensures.streamed keeps began)
+returns-in-Ok-done-clause-streamed g c premise began =
+    got_named (λ i. i.port) (λ i. path_from (λ file. file.trace.told) i.source) c.in-Ok-open_ports.streams.inputs.items g.history.formatted
+    c.stream_opened-disk.result.1 (Ok c.in-Ok-done.ended) c.args.asked.now.ends _ _ _ _ c.in-Ok-done.is c.in-Ok-open_ports.ensures.inputs
+    c.in-Ok-open_ports.ensures.outputs (c.stream_opened-disk.ensures.streamed premise began)
 
 pub returns-clause-streamed : goal.returns-clause-streamed
-returns-clause-streamed g c keeps began =
-    subst
-    (λ (done : Result Ended StreamFault). StreamLeft g.history.formatted done (g.D.Disk.state c.args.disk) (g.D.Disk.state c.stream_opened-disk.result.0))
-    c.in-Err-done.is (c.stream_opened-disk.ensures.streamed keeps began)
+returns-clause-streamed g c premise began =
+    got_named (λ i. i.port) (λ i. path_from (λ file. file.trace.told) i.source) c.in-Ok-open_ports.streams.inputs.items g.history.formatted
+    c.stream_opened-disk.result.1 (Err c.in-Err-done.fault) c.args.asked.now.ends _ _ _ _ c.in-Err-done.is c.in-Ok-open_ports.ensures.inputs
+    c.in-Ok-open_ports.ensures.outputs (c.stream_opened-disk.ensures.streamed premise began)

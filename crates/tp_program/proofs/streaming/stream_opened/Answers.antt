@@ -24,3 +24,6 @@ stream-disk-requires g c κs within =
     let crosses = c.requires.1.1.1.1.1.1.1.1.0 in
     let shared = c.requires.1.1.1.1.1.1.1.1.1.0 in
     (within.0, (within.1.0, (within.1.1.0, (teller, (stop, (within.1.1.1.1.1.1, (search (rules, sendable, crosses), (search (rules, sendable, shared), c.spread_over-task.ensures.quantum))))))))
+
+pub returns-clause-streamed : goal.returns-clause-streamed
+returns-clause-streamed g c premise began = c.stream-disk.ensures.put premise began

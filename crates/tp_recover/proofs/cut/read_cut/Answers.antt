@@ -36,11 +36,11 @@ check_flights-requires-clause-wired g c =
     omega (arith, shape.lines, ap length c.wires-2.ensures.value, ap length c.pages.ensures.value, c.in_ok-cut.ensures.nodes, c.in_ok-cut.ensures.ports, c.port_count.ensures.value)
 
 -- the cut is that of the records that were read
-is_cut : (g : given.Over) (c : After-read_records g) → (k : g.D.Disk.keeps)
+is_cut : (g : given.Over) (c : After-read_records g)
     → c.args.base ≡ base_of (content_of c.args.head.now.areas c.args.second (g.D.Disk.state c.args.disk.now).now.bytes)
     → cut_in t414_ends c.args.head.now.topology (area_start c.args.head.now.areas c.args.second + 1) (content_of c.args.head.now.areas c.args.second (g.D.Disk.state c.args.disk.now).now.bytes)
     ≡ (records_at c.pages.result.now c.wires.result.now c.port_count.result c.args.base c.places_in-places.result (g.D.Disk.state c.args.disk.now).now.bytes >>= tested t414_ends c.places_in-places.result.lines (line_count c.args.head.now.topology))
-is_cut g c k base =
+is_cut g c base =
     let t = c.args.head.now.topology in
     let value = c.topology-topology.ensures.value in
     let shape = has_shape t c.topology-topology.ensures.valid in
@@ -54,7 +54,7 @@ returns-in_err-cut-clause-is g c k base =
     let told : c.from_residual.result ≡ Err c.in_err-cut.field-0.0 = search rules in
     cut_error (network_of_cut c.args.head.now.topology.wires) t414_ends c.places_in-places.result.lines (line_count c.args.head.now.topology) _
     (records_at c.pages.result.now c.wires.result.now c.port_count.result c.args.base c.places_in-places.result (g.D.Disk.state c.args.disk.now).now.bytes) c.in_err-cut.field-0.0 c.from_residual.result
-    (is_cut g (goal.at.returns-in_err-cut-clause-is g c).After-read_records k base) (c.in_err-cut.ensures.is k) told
+    (is_cut g (goal.at.returns-in_err-cut-clause-is g c).After-read_records base) (c.in_err-cut.ensures.is k) told
 
 -- the wires that were lent, both times
 wires_are : (g : given.Over) (c : After-wires-2 g) → (c.wires.result.now ≡ c.args.head.now.topology.wires) × (c.wires-2.result.now ≡ c.args.head.now.topology.wires)
@@ -68,7 +68,7 @@ returns-in-Ok-clause-is g c k base =
     let wires = wires_are g (goal.at.returns-in-Ok-clause-is g c).After-wires-2 in
     cut_ok t414_ends c.places_in-places.result.lines (line_count t) (network_of_cut c.wires.result.now c.in_ok-cut.cut) _
     (records_at c.pages.result.now c.wires.result.now c.port_count.result c.args.base c.places_in-places.result (g.D.Disk.state c.args.disk.now).now.bytes)
-    (is_cut g (goal.at.returns-in-Ok-clause-is g c).After-read_records k base) (c.in_ok-cut.ensures.is k) c.in-Ok.field-0
+    (is_cut g (goal.at.returns-in-Ok-clause-is g c).After-read_records base) (c.in_ok-cut.ensures.is k) c.in-Ok.field-0
     (ap (λ ws. flights_in t414_ends (network_of_cut ws c.in_ok-cut.cut) c.places_in-places.result.lines 0 (line_count t)) wires.0
     ∙ ap (λ n. flights_in t414_ends (network_of_cut t.wires c.in_ok-cut.cut) c.places_in-places.result.lines 0 n) (sym shape.lines)
     ∙ ap (λ ws. flights_in t414_ends (network_of_cut ws c.in_ok-cut.cut) c.places_in-places.result.lines 0 (length ws)) (sym wires.1)
@@ -82,7 +82,7 @@ returns-in-Err-clause-is g c k base =
     let wires = wires_are g (goal.at.returns-in-Err-clause-is g c).After-wires-2 in
     cut_fault t414_ends c.places_in-places.result.lines (line_count t) (network_of_cut c.wires.result.now c.in_ok-cut.cut) _
     (records_at c.pages.result.now c.wires.result.now c.port_count.result c.args.base c.places_in-places.result (g.D.Disk.state c.args.disk.now).now.bytes) c.in-Err.fault
-    (is_cut g (goal.at.returns-in-Err-clause-is g c).After-read_records k base) (c.in_ok-cut.ensures.is k)
+    (is_cut g (goal.at.returns-in-Err-clause-is g c).After-read_records base) (c.in_ok-cut.ensures.is k)
     (ap (λ ws. flights_in t414_ends (network_of_cut ws c.in_ok-cut.cut) c.places_in-places.result.lines 0 (line_count t)) wires.0
     ∙ ap (λ n. flights_in t414_ends (network_of_cut t.wires c.in_ok-cut.cut) c.places_in-places.result.lines 0 n) (sym shape.lines)
     ∙ ap (λ ws. flights_in t414_ends (network_of_cut ws c.in_ok-cut.cut) c.places_in-places.result.lines 0 (length ws)) (sym wires.1)

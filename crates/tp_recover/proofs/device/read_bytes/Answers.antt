@@ -17,7 +17,7 @@ no_fault one other x y ReadFailed is = tt
 no_fault one other x y Memory is = tt
 
 pub returns-then-is_err-clause-leaves : goal.returns-then-is_err-clause-leaves
-returns-then-is_err-clause-leaves g c k = none_leaves (g.D.Disk.state c.args.disk.now)
+returns-then-is_err-clause-leaves g c = none_leaves (g.D.Disk.state c.args.disk.now)
 
 pub returns-in_err-fill-clause-counts : goal.returns-in_err-fill-clause-counts
 returns-in_err-fill-clause-counts g c =
@@ -25,12 +25,12 @@ returns-in_err-fill-clause-counts g c =
     rw (p.1, p.2) c.in_err-fill.ensures.counts
 
 pub returns-in_err-fill-clause-kept : goal.returns-in_err-fill-clause-kept
-returns-in_err-fill-clause-kept g c k =
+returns-in_err-fill-clause-kept g c =
     let p = err_from_is_err_and c.from_residual.result c.from_residual.ensures.1 in
-    rw (p.1, p.2) (c.in_err-fill.ensures.kept k)
+    rw (p.1, p.2) c.in_err-fill.ensures.kept
 
 pub returns-in_err-fill-clause-leaves : goal.returns-in_err-fill-clause-leaves
-returns-in_err-fill-clause-leaves g c k = c.fill.ensures.leaves k
+returns-in_err-fill-clause-leaves g c = c.fill.ensures.leaves
 
 pub returns-in_err-fill-clause-bytes : goal.returns-in_err-fill-clause-bytes
 returns-in_err-fill-clause-bytes g c k =
@@ -49,10 +49,10 @@ returns-clause-fit g c =
     rw (take-whole c.resize.new.self.len c.fill.new.out _ is_len) c.fill.ensures.fit
 
 pub returns-clause-kept : goal.returns-clause-kept
-returns-clause-kept g c k = c.in_ok-fill.ensures.kept k
+returns-clause-kept g c = c.in_ok-fill.ensures.kept
 
 pub returns-clause-leaves : goal.returns-clause-leaves
-returns-clause-leaves g c k = c.fill.ensures.leaves k
+returns-clause-leaves g c = c.fill.ensures.leaves
 
 pub returns-clause-bytes : goal.returns-clause-bytes
 returns-clause-bytes g c k =

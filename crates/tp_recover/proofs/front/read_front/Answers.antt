@@ -1,5 +1,5 @@
 use Rattle.std.proofs.Common.{◌≡◌, ◌∙◌, sym, ap, arith}
-use Rattle.tp_recover.proofs.Lower.{area_start, content_of, cut_length, front_given}
+use Rattle.tp_recover.proofs.Lower.{area_start, content_of, cut_length, front_given, AreTrue}
 use Rattle.tp_recover.proofs.Ages.{front_age}
 use Rattle.tp_recover.proofs.Areas.{front_given-read}
 use Rattle.tp_recover.proofs.Passing.{found_is}
@@ -9,7 +9,7 @@ use Rattle.tp_recover.proofs.front.read_front.Goals as goal
 use Rattle.tp_recover.proofs.front.read_front.Goals.{After-cut_front}
 
 -- the answer was what the fields say
-is_front : (g : given.Over) (c : After-cut_front g) → (k : g.D.Disk.keeps)
+is_front : (g : given.Over) (c : After-cut_front g) → AreTrue (g.D.Disk.reads c.read_array.new.disk)
     → front_given c.args.head.now.topology (area_start c.args.head.now.areas c.args.second) (content_of c.args.head.now.areas c.args.second (g.D.Disk.state c.args.disk.now).now.bytes) ≡ c.cut_front.result
 is_front g c k =
     let t = c.args.head.now.topology in

@@ -11,7 +11,7 @@ pub returns-clause-counts : goal.returns-clause-counts
 returns-clause-counts g c = still_counts c.lines_in.result _ _ _ _ c.lines_in.ensures.read c.in_ok-bytes.ensures.counts
 
 pub returns-clause-kept : goal.returns-clause-kept
-returns-clause-kept g c k = still_kept c.lines_in.result _ _ (c.in_ok-bytes.ensures.kept k)
+returns-clause-kept g c = still_kept c.lines_in.result _ _ c.in_ok-bytes.ensures.kept
 
 pub returns-clause-is : goal.returns-clause-is
 returns-clause-is g c k =

@@ -12,11 +12,12 @@ loop-done-preserved g c =
       within = within;
       source_size = search rules;
       copy_size = search rules;
-      kept = λ d. c.in_ok-copy_piece.ensures.kept d ∙ was.kept d;
-      leaves = λ d. then_leaves _ _ _ (was.leaves d) (c.copy_piece.ensures.leaves d);
-      bytes = λ d k.
+      premise = λ k. was.premise (c.copy_piece.ensures.premise k);
+      kept = c.in_ok-copy_piece.ensures.kept ∙ was.kept;
+      leaves = then_leaves _ _ _ was.leaves c.copy_piece.ensures.leaves;
+      bytes = λ k.
           piece_copied c.args.at c.loop-done.done _ c.min-length.result (g.D.Disk.state c.args.source.now).now.bytes _ _ _ _ (search rules)
-          (ap (λ (m : Moment). m.bytes) (was.kept d)) (was.bytes d k) (c.in_ok-copy_piece.ensures.bytes d k)
-          (omega (arith, within, c.requires.from, g.met.D.Disk.whole d c.args.source.now))
-          (omega (arith, c.requires.into, g.met.K.Disk.whole k c.args.copy.now));
+          (ap (λ (m : Moment). m.bytes) was.kept) (was.bytes (c.copy_piece.ensures.premise k)) (c.in_ok-copy_piece.ensures.bytes k)
+          (omega (arith, within, c.requires.from, g.met.D.Disk.whole c.args.source.now))
+          (omega (arith, c.requires.into, g.met.K.Disk.whole c.args.copy.now));
     }

@@ -1,4 +1,5 @@
 use Rattle.std.proofs.Common.{◌≡◌, ◌-◌, ◌≤◌}
+use Rattle.tp_disk.specs.Reads.{AreTrue, WereTrue}
 use Rattle.tp_recover.specs.Copies.{with_range}
 use Rattle.tp_recover.specs.Reading.{LeavesNothingNew}
 use Rattle.tp_recover.proofs.pieces.copy_range.Given as goal
@@ -8,9 +9,10 @@ invariant-loop-done g l = record {
   within : l.done ≤ l.count;
   source_size : g.D.Disk.size_of l.source ≡ g.D.Disk.size_of l.initial.source;
   copy_size : g.K.Disk.size_of l.copy ≡ g.K.Disk.size_of l.initial.copy;
-  kept : g.D.Disk.keeps → (g.D.Disk.state l.source).now ≡ (g.D.Disk.state l.initial.source).now;
-  leaves : g.D.Disk.keeps → LeavesNothingNew (g.D.Disk.state l.initial.source) (g.D.Disk.state l.source);
-  bytes : g.D.Disk.keeps → g.K.Disk.keeps → (g.K.Disk.state l.copy).now.bytes
+  premise : WereTrue (g.D.Disk.reads l.initial.source) (g.D.Disk.reads l.source);
+  kept : (g.D.Disk.state l.source).now ≡ (g.D.Disk.state l.initial.source).now;
+  leaves : LeavesNothingNew (g.D.Disk.state l.initial.source) (g.D.Disk.state l.source);
+  bytes : AreTrue (g.D.Disk.reads l.source) → (g.K.Disk.state l.copy).now.bytes
       ≡ with_range l.at l.done (g.D.Disk.state l.initial.source).now.bytes (g.K.Disk.state l.initial.copy).now.bytes;
 }
 

@@ -9,7 +9,7 @@ pub returns-in_err-read-clause-is : goal.returns-in_err-read-clause-is
 returns-in_err-read-clause-is g c k =
     let told : c.from_residual.result ≡ Err c.in_err-read.field-0.0 = search rules in
     ports_in-error port_made _ c.args.base c.args.at c.loop-port.port c.args.count (g.D.Disk.state c.args.disk.now).now (g.D.Disk.state c.loop-port.disk).now (map port_made c.loop-port.ports.items) c.in_err-read.field-0.0 c.from_residual.result
-    (omega arith) (c.loop-port.invariant.read k) (c.loop-port.invariant.kept k) (c.in_err-read.ensures.is k) told
+    (omega arith) (c.loop-port.invariant.read (c.read_port.ensures.premise k)) c.loop-port.invariant.kept (c.in_err-read.ensures.is k) told
 
 pub loop-port-preserved : goal.loop-port-preserved
 loop-port-preserved g c = record {
@@ -17,15 +17,16 @@ loop-port-preserved g c = record {
     size = c.in_ok-read.ensures.counts.size ∙ c.loop-port.invariant.counts.size;
     failures = c.in_ok-read.ensures.counts.failures ∙ c.loop-port.invariant.counts.failures;
   };
-  kept = λ k. c.in_ok-read.ensures.kept k ∙ c.loop-port.invariant.kept k;
-  leaves = λ k s before. then_leaves _ _ _ (c.loop-port.invariant.leaves k s before) (c.read_port.ensures.leaves k);
+  premise = λ k. c.loop-port.invariant.premise (c.read_port.ensures.premise k);
+  kept = c.in_ok-read.ensures.kept ∙ c.loop-port.invariant.kept;
+  leaves = λ s before. then_leaves _ _ _ (c.loop-port.invariant.leaves s before) c.read_port.ensures.leaves;
   count = ap length c.in-Ok.ensures.items ∙ length_push c.loop-port.ports.items c.in_ok-read.read ∙ ap (λ n. n + 1) c.loop-port.invariant.count;
   ports =
       reached_more c.args.base (map port_made c.loop-port.ports.items) (map port_made c.push.new.self.items) (port_made c.in_ok-read.read) c.loop-port.invariant.ports c.in_ok-read.ensures.port
       (ap (map port_made) c.in-Ok.ensures.items ∙ map_push port_made c.loop-port.ports.items c.in_ok-read.read);
   read = λ k.
       ports_in-step c.args.base c.args.at c.loop-port.port c.args.count (g.D.Disk.state c.args.disk.now).now (g.D.Disk.state c.loop-port.disk).now (map port_made c.loop-port.ports.items) (map port_made c.push.new.self.items) (port_made c.in_ok-read.read)
-      (omega arith) (c.loop-port.invariant.read k) (c.loop-port.invariant.kept k) (c.in_ok-read.ensures.is k)
+      (omega arith) (c.loop-port.invariant.read (c.read_port.ensures.premise k)) c.loop-port.invariant.kept (c.in_ok-read.ensures.is k)
       (ap (map port_made) c.in-Ok.ensures.items ∙ map_push port_made c.loop-port.ports.items c.in_ok-read.read);
 }
 
@@ -34,10 +35,10 @@ returns-clause-is g c k =
     ports_in-end c.args.base c.args.at c.loop-port.port c.args.count (g.D.Disk.state c.args.disk.now).now.bytes (map port_made c.loop-port.ports.items) (omega arith) (c.loop-port.invariant.read k)
 
 pub returns-in_err-read-clause-leaves : goal.returns-in_err-read-clause-leaves
-returns-in_err-read-clause-leaves g c k = then_leaves _ _ _ (c.loop-port.invariant.leaves k _ (none_leaves _)) (c.read_port.ensures.leaves k)
+returns-in_err-read-clause-leaves g c = then_leaves _ _ _ (c.loop-port.invariant.leaves _ (none_leaves _)) c.read_port.ensures.leaves
 
 pub returns-in_default-clause-leaves : goal.returns-in_default-clause-leaves
-returns-in_default-clause-leaves g c k = then_leaves _ _ _ (c.loop-port.invariant.leaves k _ (none_leaves _)) (c.read_port.ensures.leaves k)
+returns-in_default-clause-leaves g c = then_leaves _ _ _ (c.loop-port.invariant.leaves _ (none_leaves _)) c.read_port.ensures.leaves
 
 pub returns-clause-leaves : goal.returns-clause-leaves
-returns-clause-leaves g c k = c.loop-port.invariant.leaves k _ (none_leaves _)
+returns-clause-leaves g c = c.loop-port.invariant.leaves _ (none_leaves _)

@@ -32,15 +32,15 @@ start-replay-requires-clause-counted g c =
     (cut_counted t414_ends t c.in_ok-front.front.base (network_of_cut t.wires c.in_ok-cut.cut) (c.in_ok-cut.ensures.cut c.in_ok-front.ensures.few))
 
 pub returns-in_err-cut-clause-leaves : goal.returns-in_err-cut-clause-leaves
-returns-in_err-cut-clause-leaves g c k = then_leaves _ _ _ (c.read_front.ensures.leaves k) (c.read_cut.ensures.leaves k)
+returns-in_err-cut-clause-leaves g c = then_leaves _ _ _ c.read_front.ensures.leaves c.read_cut.ensures.leaves
 
 pub returns-in_default-clause-leaves : goal.returns-in_default-clause-leaves
-returns-in_default-clause-leaves g c k = then_leaves _ _ _ (c.read_front.ensures.leaves k) (c.read_cut.ensures.leaves k)
+returns-in_default-clause-leaves g c = then_leaves _ _ _ c.read_front.ensures.leaves c.read_cut.ensures.leaves
 
 pub returns-clause-leaves : goal.returns-clause-leaves
-returns-clause-leaves g c k = then_leaves _ _ _ (c.read_front.ensures.leaves k) (c.read_cut.ensures.leaves k)
+returns-clause-leaves g c = then_leaves _ _ _ c.read_front.ensures.leaves c.read_cut.ensures.leaves
 
 pub returns-in_err-cut-clause-is : goal.returns-in_err-cut-clause-is
 returns-in_err-cut-clause-is g c k =
     let told : c.from_residual-in_err-cut.result ≡ Err c.in_err-cut.field-0.0 = search rules in
-    cut_unread c.args.head.now c.args.second _ _ c.in_ok-front.front c.in_err-cut.field-0.0 c.from_residual-in_err-cut.result (c.in_ok-front.ensures.kept k) (c.in_ok-front.ensures.is k) (c.in_err-cut.ensures.is k) told
+    cut_unread c.args.head.now c.args.second _ _ c.in_ok-front.front c.in_err-cut.field-0.0 c.from_residual-in_err-cut.result c.in_ok-front.ensures.kept (c.in_ok-front.ensures.is (c.read_cut.ensures.premise k)) (c.in_err-cut.ensures.is k) told

@@ -1,4 +1,4 @@
-use Rattle.tp_run.proofs.Lower.{Began, IsSameProcess, Walked}
+use Rattle.tp_run.proofs.Lower.{AreTrue, WereTrue, Began, IsSameProcess, Walked}
 use Rattle.tp_run.specs.Failures.{CountsFailures}
 use Rattle.tp_run.proofs.flushing.flush_meanwhile.Given as goal
 
@@ -6,5 +6,6 @@ abbrev pub invariant-loop : goal.invariant-loop
 invariant-loop g l = record {
   process : IsSameProcess l.fn.first l.flusher;
   failures : CountsFailures l.fn.first l.flusher;
-  walks : g.D.Disk.keeps → Began g.J.Naming.formatted g.J.Naming.before l.fn.first.opened → Walked l.fn.first l.flusher;
+  premise : WereTrue l.fn.first.reads l.flusher.reads;
+  walks : AreTrue l.flusher.reads → Began g.J.Naming.formatted g.J.Naming.before l.fn.first.opened → Walked l.fn.first l.flusher;
 }

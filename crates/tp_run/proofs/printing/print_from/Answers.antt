@@ -10,7 +10,7 @@ pub print_shown-requires-clause-shown : goal.print_shown-requires-clause-shown
 print_shown-requires-clause-shown g c =
     let b = c.args.held.now.book in
     let port = c.args.outset.port in
-    may_take_all g.D.Disk.keeps g.J.Naming.formatted g.J.Naming.before c.args.flusher.now b port c.args.mark c.args.outset.confirmed c.requires.ahead c.requires.mark (record {
+    may_take_all g.J.Naming.formatted g.J.Naming.before c.args.flusher.now b port c.args.mark c.args.outset.confirmed c.requires.ahead c.requires.mark (record {
       base = ap (λ d. (port_in d port).out_base) (sym c.book.ensures) ∙ c.in_ok-is_confirmed_in.ensures.confirmed;
       all = subst (λ d. shown_of d port c.args.mark ≡ length (port_in d port).outputs) c.book-2.ensures c.in_ok-is_all_shown.ensures.all;
       stored = subst (λ d. next_in_book d ≤ c.args.mark) c.book-2.ensures c.in_ok-is_all_shown.ensures.stored;

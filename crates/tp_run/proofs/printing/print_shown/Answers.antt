@@ -12,7 +12,7 @@ put-requires g c =
     let shown : c.shown.result.now ≡ shown_from b port c.args.mark (port_in b port).out_base =
     c.shown.ensures.value ∙ ap (λ d. shown_from d port c.args.mark c.out_base-from.result) c.book-2.ensures
     ∙ ap (shown_from b port c.args.mark) (c.out_base-from.ensures ∙ ap (λ d. (port_in d port).out_base) c.book.ensures) in
-    record { shown = subst (MayTake g.D.Disk.keeps g.J.Naming.formatted g.J.Naming.before c.args.flusher.now) (sym shown) c.requires.shown }
+    record { shown = subst (MayTake g.J.Naming.formatted g.J.Naming.before c.args.flusher.now) (sym shown) c.requires.shown }
 
 -- the outputs that were to be printed
 pub returns-in_err-put-clause-printed : goal.returns-in_err-put-clause-printed

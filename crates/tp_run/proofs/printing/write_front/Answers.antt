@@ -15,8 +15,8 @@ print-requires g c =
     let f = c.args.flusher.now in
     record {
       shown =
-          subst (MayTake g.D.Disk.keeps g.J.Naming.formatted g.J.Naming.before f) (sym (take_rest bytes c.loop.written))
-          (may_take_rest g.D.Disk.keeps g.J.Naming.formatted g.J.Naming.before f bytes c.loop.written c.requires.shown);
+          subst (MayTake g.J.Naming.formatted g.J.Naming.before f) (sym (take_rest bytes c.loop.written))
+          (may_take_rest g.J.Naming.formatted g.J.Naming.before f bytes c.loop.written c.requires.shown);
     }
 
 pub loop-preserved : goal.loop-preserved

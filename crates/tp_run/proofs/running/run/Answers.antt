@@ -1,6 +1,6 @@
 use Rattle.std.proofs.Common.{◌≡◌, ◌<◌, length, Err, Some, None, false, refl, sym, ap, subst, ◌∙◌}
 use Rattle.std.specs.Prelude.{nat_lt, IfErr, IfOk}
-use Rattle.tp_run.proofs.Lower.{Moment, Head, Topology, Began, Opened}
+use Rattle.tp_run.proofs.Lower.{AreTrue, Moment, Head, Topology, Began, Opened}
 use Rattle.tp_run.specs.declared.fault.RunFault.TheVariants.{Opening, Memory, OfferRefused}
 use Rattle.tp_run.specs.declared.outset.Outset.{Outset}
 use Rattle.tp_run.specs.Input.{rest_at}
@@ -35,9 +35,15 @@ run_parts-requires-clause-names g c κs within =
       accepted_is = λ p. refl;
     }
 
+pub returns-in_default-parts_of-clause-premise : goal.returns-in_default-parts_of-clause-premise
+returns-in_default-parts_of-clause-premise g c k = c.open.ensures.premise (subst (λ d. AreTrue (g.D.Disk.reads d)) (c.into_disk.ensures ∙ c.store-store.ensures.disk) k)
+
+pub returns-clause-premise : goal.returns-clause-premise
+returns-clause-premise g c k = c.open.ensures.premise (subst (λ d. AreTrue (g.D.Disk.reads d)) c.store-store.ensures.disk (c.run_parts.ensures.premise k))
+
 pub returns-in-Err-clause-ran : goal.returns-in-Err-clause-ran
 returns-in-Err-clause-ran g c k began =
-    unwritten_ran g.history.formatted c.args.job c.args.input.now (g.O.Outlet.value c.args.out.now).taken (Opening c.in-Err.unopened) (g.D.Disk.state c.args.disk) (g.D.Disk.state c.open.new.disk) (c.open.ensures.leaves k) tt
+    unwritten_ran g.history.formatted c.args.job c.args.input.now (g.O.Outlet.value c.args.out.now).taken (Opening c.in-Err.unopened) (g.D.Disk.state c.args.disk) (g.D.Disk.state c.open.new.disk) c.open.ensures.leaves tt
 
 pub returns-in-Err-clause-called : goal.returns-in-Err-clause-called
 returns-in-Err-clause-called g c k began =
@@ -45,7 +51,7 @@ returns-in-Err-clause-called g c k began =
 
 pub returns-in-Some-clause-ran : goal.returns-in-Some-clause-ran
 returns-in-Some-clause-ran g c k began =
-    unwritten_ran g.history.formatted c.args.job c.args.input.now (g.O.Outlet.value c.args.out.now).taken c.in-Some.fault (g.D.Disk.state c.args.disk) (g.D.Disk.state c.open.new.disk) (c.open.ensures.leaves k)
+    unwritten_ran g.history.formatted c.args.job c.args.input.now (g.O.Outlet.value c.args.out.now).taken c.in-Some.fault (g.D.Disk.state c.args.disk) (g.D.Disk.state c.open.new.disk) c.open.ensures.leaves
     (wrong_is ComesSilent (has_pages c.args.job.spare c.topology.result.now) (nat_lt c.args.job.port c.topology.result.now.ports) c.in-Some.fault (sym c.in-Some.ensures) tt tt)
 
 pub returns-in-Some-clause-called : goal.returns-in-Some-clause-called
@@ -56,7 +62,7 @@ pub returns-in_default-parts_of-clause-ran : goal.returns-in_default-parts_of-cl
 returns-in_default-parts_of-clause-ran g c k began =
     let out = (g.O.Outlet.value c.args.out.now).taken in
     subst (λ d. Ran g.history.formatted c.args.job c.args.input.now out out (Err Memory) (g.D.Disk.state c.args.disk) (g.D.Disk.state d)) (sym (c.into_disk.ensures ∙ c.store-store.ensures.disk))
-    (unwritten_ran g.history.formatted c.args.job c.args.input.now out Memory (g.D.Disk.state c.args.disk) (g.D.Disk.state c.open.new.disk) (c.open.ensures.leaves k) tt)
+    (unwritten_ran g.history.formatted c.args.job c.args.input.now out Memory (g.D.Disk.state c.args.disk) (g.D.Disk.state c.open.new.disk) c.open.ensures.leaves tt)
 
 pub returns-in_default-parts_of-clause-called : goal.returns-in_default-parts_of-clause-called
 returns-in_default-parts_of-clause-called g c k began =
@@ -70,9 +76,9 @@ returns-clause-called g c k began =
     let was = g.O.Outlet.value c.args.out.now in
     let now = g.O.Outlet.value c.run_parts.new.out in
     let done = c.run_parts.result.1 in
-    let kept : (g.D.Disk.state c.open.new.disk).now.bytes ≡ (g.D.Disk.state c.args.disk).now.bytes = ap (λ (m : Moment). m.bytes) (c.in-Ok.ensures.kept k) in
+    let kept : (g.D.Disk.state c.open.new.disk).now.bytes ≡ (g.D.Disk.state c.args.disk).now.bytes = ap (λ (m : Moment). m.bytes) c.in-Ok.ensures.kept in
     let same : (g.D.Disk.state c.store-store.result.disk).now.bytes ≡ (g.D.Disk.state c.args.disk).now.bytes = ap (λ d. (g.D.Disk.state d).now.bytes) c.store-store.ensures.disk ∙ kept in
-    opened_into start job input was now done (g.D.Disk.state c.args.disk) (g.D.Disk.state c.open.new.disk) (g.D.Disk.state c.run_parts.result.0) (c.open.ensures.leaves k) kept
+    opened_into start job input was now done (g.D.Disk.state c.args.disk) (g.D.Disk.state c.open.new.disk) (g.D.Disk.state c.run_parts.result.0) c.open.ensures.leaves kept
     (subst (λ d. RanInto start job input was now done (g.D.Disk.state d) (g.D.Disk.state c.run_parts.result.0)) c.store-store.ensures.disk
     (c.run_parts.ensures.called k (subst (Began start g.history.before) (sym same) began)))
 
@@ -81,7 +87,7 @@ returns-clause-rest g c k began =
     let start = g.history.formatted in
     let done = c.run_parts.result.1 in
     let rest = c.run_parts.result.2 in
-    let kept : (g.D.Disk.state c.open.new.disk).now.bytes ≡ (g.D.Disk.state c.args.disk).now.bytes = ap (λ (m : Moment). m.bytes) (c.in-Ok.ensures.kept k) in
+    let kept : (g.D.Disk.state c.open.new.disk).now.bytes ≡ (g.D.Disk.state c.args.disk).now.bytes = ap (λ (m : Moment). m.bytes) c.in-Ok.ensures.kept in
     let same : (g.D.Disk.state c.store-store.result.disk).now.bytes ≡ (g.D.Disk.state c.args.disk).now.bytes = ap (λ d. (g.D.Disk.state d).now.bytes) c.store-store.ensures.disk ∙ kept in
     opened_rests start rest done (g.D.Disk.state c.args.disk) (g.D.Disk.state c.open.new.disk) (g.D.Disk.state c.run_parts.result.0) kept
     (subst (λ d. IfOk done (λ next. RestsAt start rest next (g.D.Disk.state d) (g.D.Disk.state c.run_parts.result.0))) c.store-store.ensures.disk
@@ -91,7 +97,7 @@ pub returns-clause-ran : goal.returns-clause-ran
 returns-clause-ran g c k began = (returns-clause-called g c k began).ran
 
 pub returns-clause-unwritten : goal.returns-clause-unwritten
-returns-clause-unwritten g c k unbegun = absurd (begun_written c.run_parts.result.1 c.run_parts.ensures.begun unbegun)
+returns-clause-unwritten g c unbegun = absurd (begun_written c.run_parts.result.1 c.run_parts.ensures.begun unbegun)
 
 -- ## Which fault
 
@@ -109,7 +115,7 @@ returns-in_default-parts_of-clause-answer g c k =
     let job = c.args.job in
     let right = sym c.job_fault.ensures ∙ none_of c.job_fault.result c.in_default.not-Some in
     let has = subst (λ (t : Topology). job_fault job.spare job.port t ≡ None) (c.topology.ensures.value ∙ ap (λ (h : Head). h.topology) c.head.ensures) right in
-    record { opened = c.in-Ok.opened; is = c.in-Ok.ensures.is k; has = has }
+    record { opened = c.in-Ok.opened; is = c.in-Ok.ensures.is (subst (λ d. AreTrue (g.D.Disk.reads d)) (c.into_disk.ensures ∙ c.store-store.ensures.disk) k); has = has }
 
 pub returns-clause-answer : goal.returns-clause-answer
 returns-clause-answer g c k =
@@ -118,7 +124,7 @@ returns-clause-answer g c k =
     let right = sym c.job_fault.ensures ∙ none_of c.job_fault.result c.in_default.not-Some in
     let has = subst (λ (t : Topology). job_fault job.spare job.port t ≡ None) (c.topology.ensures.value ∙ ap (λ (h : Head). h.topology) c.head.ensures) right in
     let some = subst (λ (u : Outset). IfErr c.run_parts.result.1 (λ fault. fault ≡ OfferRefused → 0 < length (rest_at u c.args.input.now))) c.in-Ok-parts_of.ensures.outset c.run_parts.ensures.some in
-    answered _ job c.args.input.now opened c.run_parts.result.1 (c.in-Ok.ensures.is k) has c.run_parts.ensures.begun some
+    answered _ job c.args.input.now opened c.run_parts.result.1 (c.in-Ok.ensures.is (subst (λ d. AreTrue (g.D.Disk.reads d)) c.store-store.ensures.disk (c.run_parts.ensures.premise k))) has c.run_parts.ensures.begun some
 
 -- ## How many calls of the device have failed
 

@@ -1,6 +1,6 @@
 use Rattle.std.proofs.Common.{◌≡◌, Ok, Err, Some, false, refl, ap, sym, subst, ◌∙◌, []}
 use Rattle.std.specs.Prelude.{All, IfOk}
-use Rattle.tp_run.proofs.Lower.{State, held_of, verdict, World, reopened, Began, NodeState, Network}
+use Rattle.tp_run.proofs.Lower.{AreTrue, State, held_of, verdict, World, reopened, Began, NodeState, Network}
 use Rattle.tp_run.specs.declared.fault.RunFault.TheVariants.{Memory}
 use Rattle.tp_run.specs.HandedOver.{HandedOver}
 use Rattle.tp_run.specs.Input.{input_slips}
@@ -21,6 +21,9 @@ over-flusher-requires-clause-bound g c = sym c.requires.names.room_is ∙ c.requ
 pub over-flusher-requires-clause-first : goal.over-flusher-requires-clause-first
 over-flusher-requires-clause-first g c = sym c.requires.names.first_is ∙ c.requires.stands.first
 
+pub returns-clause-premise : goal.returns-clause-premise
+returns-clause-premise g c k = subst AreTrue c.over-flusher.ensures.device.1 (c.use_up-flusher.ensures.premise (subst AreTrue c.into_disk-2.ensures.reads k))
+
 pub returns-in_default-clause-called : goal.returns-in_default-clause-called
 returns-in_default-clause-called g c k began =
     let out = g.O.Outlet.value c.args.out.now in
@@ -30,6 +33,7 @@ returns-in_default-clause-called g c k began =
 
 pub returns-clause-called : goal.returns-clause-called
 returns-clause-called g c k began =
+    let used = subst AreTrue c.into_disk-2.ensures.reads k in
     let start = g.J.Naming.formatted in
     let job = c.args.job in
     let input = c.args.input.now in
@@ -45,20 +49,21 @@ returns-clause-called g c k began =
     let there : Began start before old.state.now.bytes = subst (λ (s : State). Began start before s.now.bytes) device began in
     let world : old.world ≡ reopened before old.state.now.bytes (held_of opened) opened.now =
     subst (λ (s : State). old.world ≡ reopened before s.now.bytes (held_of opened) opened.now) device c.over-flusher.ensures.world in
-    let reads : verdict old.state.now.bytes ≡ Ok opened = subst (λ (s : State). verdict s.now.bytes ≡ Ok opened) device (c.requires.read k) in
+    let reads : verdict old.state.now.bytes ≡ Ok opened = subst (λ (s : State). verdict s.now.bytes ≡ Ok opened) device (c.requires.read (subst AreTrue c.over-flusher.ensures.device.1 (c.use_up-flusher.ensures.premise used))) in
     let settled =
     subst (λ (s : Network NodeState). IfOk done (Settled start s job (outset_in opened job.port) (input_slips (outset_in opened job.port) input) was.taken now.taken new.world.journal)) c.requires.network
-    (subst (λ u. IfOk done (Settled start g.J.Naming.start job u (input_slips u input) was.taken now.taken new.world.journal)) c.requires.outset (c.use_up-flusher.ensures.settled k first)) in
-    let shown = subst (λ (u : Outset). MayPrint start old new u.port u.confirmed was now done) c.requires.outset (c.use_up-flusher.ensures.shown k first) in
-    let handed = subst (λ (u : Outset). HandedOver start new.world.journal u input was.taken now.taken) c.requires.outset (c.use_up-flusher.ensures.handed k first) in
+    (subst (λ u. IfOk done (Settled start g.J.Naming.start job u (input_slips u input) was.taken now.taken new.world.journal)) c.requires.outset (c.use_up-flusher.ensures.settled used first)) in
+    let shown = subst (λ (u : Outset). MayPrint start old new u.port u.confirmed was now done) c.requires.outset (c.use_up-flusher.ensures.shown used first) in
+    let handed = subst (λ (u : Outset). HandedOver start new.world.journal u input was.taken now.taken) c.requires.outset (c.use_up-flusher.ensures.handed used first) in
     let ran : RanInto start job input was now done old.state new.state =
-    served_ran c.stored_slips_are_recovered.ensures start before opened job input was now old new done there reads world (c.use_up-flusher.ensures.walks k first) c.use_up-flusher.ensures.stored settled shown handed in
+    served_ran c.stored_slips_are_recovered.ensures start before opened job input was now old new done there reads world (c.use_up-flusher.ensures.walks used first) c.use_up-flusher.ensures.stored settled shown handed in
     subst (λ s. RanInto start job input was now done (g.D.Disk.state c.args.store.disk) s) (sym c.into_disk-2.ensures.state) (subst (λ s. RanInto start job input was now done s new.state) c.over-flusher.ensures.device.0 ran)
 
 -- ## What is left to do
 
 pub returns-clause-rest : goal.returns-clause-rest
 returns-clause-rest g c k began =
+    let used = subst AreTrue c.into_disk-2.ensures.reads k in
     let start = g.J.Naming.formatted in
     let opened = c.args.opened.value in
     let old = c.over-flusher.result in
@@ -71,8 +76,8 @@ returns-clause-rest g c k began =
     let there : Began start before old.state.now.bytes = subst (λ (s : State). Began start before s.now.bytes) device began in
     let world : old.world ≡ reopened before old.state.now.bytes (held_of opened) opened.now =
     subst (λ (s : State). old.world ≡ reopened before s.now.bytes (held_of opened) opened.now) device c.over-flusher.ensures.world in
-    let reads : verdict old.state.now.bytes ≡ Ok opened = subst (λ (s : State). verdict s.now.bytes ≡ Ok opened) device (c.requires.read k) in
-    let rests = served_rests start before opened old new rest done there reads world (c.use_up-flusher.ensures.walks k first) c.use_up-flusher.ensures.stored (c.use_up-flusher.ensures.rest k first) in
+    let reads : verdict old.state.now.bytes ≡ Ok opened = subst (λ (s : State). verdict s.now.bytes ≡ Ok opened) device (c.requires.read (subst AreTrue c.over-flusher.ensures.device.1 (c.use_up-flusher.ensures.premise used))) in
+    let rests = served_rests start before opened old new rest done there reads world (c.use_up-flusher.ensures.walks used first) c.use_up-flusher.ensures.stored (c.use_up-flusher.ensures.rest used first) in
     subst (λ s. IfOk done (λ next. RestsAt start rest next (g.D.Disk.state c.args.store.disk) s)) (sym c.into_disk-2.ensures.state)
     (subst (λ s. IfOk done (λ next. RestsAt start rest next s new.state)) c.over-flusher.ensures.device.0 rests)
 
@@ -93,4 +98,4 @@ returns-in_default-clause-failures g c = uncounted _ _ false refl (ap g.D.Disk.f
 
 pub returns-clause-failures : goal.returns-clause-failures
 returns-clause-failures g c =
-    c.into_disk-2.ensures.failures ∙ subst (λ n. c.use_up-flusher.result.0.failures ≡ failures_after (has_failed c.use_up-flusher.result.1) n) c.over-flusher.ensures.device.2 c.use_up-flusher.ensures.failures
+    c.into_disk-2.ensures.failures ∙ subst (λ n. c.use_up-flusher.result.0.failures ≡ failures_after (has_failed c.use_up-flusher.result.1) n) c.over-flusher.ensures.device.3 c.use_up-flusher.ensures.failures

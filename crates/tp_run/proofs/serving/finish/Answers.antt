@@ -11,26 +11,43 @@ use Rattle.tp_run.proofs.Shown.{done_as, done_says, fault_of, fault_says, may_pr
 use Rattle.tp_run.proofs.Gathered.{accounted_for, all_settled}
 use Rattle.tp_run.proofs.Failures.{failures_then}
 use Rattle.tp_run.proofs.Faults.{flush_behind, flush_ends, flush_prints, flush_silent, last_said, late_behind, late_behind_of, late_said, late_unfailed, late_unfailed_of}
+use Rattle.tp_run.proofs.Premise.{same_premise}
 use Rattle.tp_run.proofs.Slips.{host_settled}
 use Rattle.tp_run.proofs.serving.finish.Goals as goal
+
+-- ## The premise at the start
+
+pub returns-in_err-confirmed-clause-premise : goal.returns-in_err-confirmed-clause-premise
+returns-in_err-confirmed-clause-premise g c k = c.flush_upto.ensures.premise (same_premise c.print.ensures.same k)
+
+pub returns-in_err-_mark-clause-premise : goal.returns-in_err-_mark-clause-premise
+returns-in_err-_mark-clause-premise g c k = c.flush_upto.ensures.premise (same_premise c.print.ensures.same (c.flush_upto-2.ensures.premise k))
+
+pub returns-clause-premise : goal.returns-clause-premise
+returns-clause-premise g c k = c.flush_upto.ensures.premise (same_premise c.print.ensures.same (c.flush_upto-2.ensures.premise (same_premise c.settle.ensures.same k)))
 
 -- ## Each moment of the device
 
 pub returns-in_err-confirmed-clause-walks : goal.returns-in_err-confirmed-clause-walks
-returns-in_err-confirmed-clause-walks g c k began = subst (λ (f : Flushing). Walked c.args.flusher.now f) (sym c.print.ensures.same) (c.flush_upto.ensures.walks k began)
+returns-in_err-confirmed-clause-walks g c k began = subst (λ (f : Flushing). Walked c.args.flusher.now f) (sym c.print.ensures.same) (c.flush_upto.ensures.walks (same_premise c.print.ensures.same k) began)
 
 pub returns-in_err-_mark-clause-walks : goal.returns-in_err-_mark-clause-walks
 returns-in_err-_mark-clause-walks g c k began =
+    let printed = c.flush_upto-2.ensures.premise k in
+    let flushed = same_premise c.print.ensures.same printed in
     let there = subst (Began g.J.Naming.formatted g.J.Naming.before) (sym (ap (λ (f : Flushing). f.opened) c.print.ensures.same ∙ c.flush_upto.ensures.process.opened)) began in
-    let first = subst (λ (f : Flushing). Walked c.args.flusher.now f) (sym c.print.ensures.same) (c.flush_upto.ensures.walks k began) in
+    let first = subst (λ (f : Flushing). Walked c.args.flusher.now f) (sym c.print.ensures.same) (c.flush_upto.ensures.walks flushed began) in
     walked_then c.args.flusher.now c.print.new.flusher c.flush_upto-2.new.flusher first (c.flush_upto-2.ensures.walks k there)
 
 pub returns-clause-walks : goal.returns-clause-walks
 returns-clause-walks g c k began =
+    let again = same_premise c.settle.ensures.same k in
+    let printed = c.flush_upto-2.ensures.premise again in
+    let flushed = same_premise c.print.ensures.same printed in
     let there = subst (Began g.J.Naming.formatted g.J.Naming.before) (sym (ap (λ (f : Flushing). f.opened) c.print.ensures.same ∙ c.flush_upto.ensures.process.opened)) began in
-    let first = subst (λ (f : Flushing). Walked c.args.flusher.now f) (sym c.print.ensures.same) (c.flush_upto.ensures.walks k began) in
+    let first = subst (λ (f : Flushing). Walked c.args.flusher.now f) (sym c.print.ensures.same) (c.flush_upto.ensures.walks flushed began) in
     subst (λ (f : Flushing). Walked c.args.flusher.now f) (sym c.settle.ensures.same)
-    (walked_then c.args.flusher.now c.print.new.flusher c.flush_upto-2.new.flusher first (c.flush_upto-2.ensures.walks k there))
+    (walked_then c.args.flusher.now c.print.new.flusher c.flush_upto-2.new.flusher first (c.flush_upto-2.ensures.walks again there))
 
 -- ## What is printed
 
@@ -42,6 +59,7 @@ returns-in_err-mark-clause-shown g c k began =
 
 pub returns-in_err-confirmed-clause-shown : goal.returns-in_err-confirmed-clause-shown
 returns-in_err-confirmed-clause-shown g c k began =
+    let flushed = same_premise c.print.ensures.same k in
     let start = g.J.Naming.formatted in
     let there = subst (Began start g.J.Naming.before) (sym c.flush_upto.ensures.process.opened) began in
     let was = g.O.Outlet.value c.args.out.now in
@@ -50,11 +68,13 @@ returns-in_err-confirmed-clause-shown g c k began =
     let is : c.from_residual-in_err-confirmed.result ≡ Err fault = search rules in
     subst (MayPrint start c.args.flusher.now c.print.new.flusher c.args.outset.port c.args.outset.confirmed was now) (sym is)
     (subst (λ (f : Flushing). MayPrint start c.args.flusher.now f c.args.outset.port c.args.outset.confirmed was now (fault_of ℕ fault)) (sym c.print.ensures.same)
-    (may_print_last start c.args.flusher.now c.flush_upto.new.flusher (c.known.ensures.reached k began) (c.flush_upto.ensures.walks k began) c.args.outset.port c.args.outset.confirmed was now
+    (may_print_last start c.args.flusher.now c.flush_upto.new.flusher (c.known.ensures.reached (c.flush_upto.ensures.premise flushed) began) (c.flush_upto.ensures.walks flushed began) c.args.outset.port c.args.outset.confirmed was now
     (fault_of ReceiptValue fault) (fault_of ℕ fault) (fault_says ReceiptValue ℕ fault) (c.in_err-confirmed.ensures.shown k there)))
 
 pub returns-in_err-_mark-clause-shown : goal.returns-in_err-_mark-clause-shown
 returns-in_err-_mark-clause-shown g c k began =
+    let printed = c.flush_upto-2.ensures.premise k in
+    let flushed = same_premise c.print.ensures.same printed in
     let start = g.J.Naming.formatted in
     let there = subst (Began start g.J.Naming.before) (sym c.flush_upto.ensures.process.opened) began in
     let later = subst (λ (f : Flushing). Began start g.J.Naming.before f.opened) (sym c.print.ensures.same) there in
@@ -62,27 +82,33 @@ returns-in_err-_mark-clause-shown g c k began =
     let fault = c.in_err-_mark.field-0.0 in
     let is : c.from_residual-in_err-_mark.result ≡ Err fault = search rules in
     subst (MayPrint start c.args.flusher.now c.flush_upto-2.new.flusher c.args.outset.port c.args.outset.confirmed (g.O.Outlet.value c.args.out.now) (g.O.Outlet.value c.print.new.out)) (sym is)
-    (may_print start c.args.flusher.now c.flush_upto.new.flusher c.flush_upto-2.new.flusher (c.known.ensures.reached k began) (c.flush_upto.ensures.walks k began) walked c.args.outset.port
+    (may_print start c.args.flusher.now c.flush_upto.new.flusher c.flush_upto-2.new.flusher (c.known.ensures.reached (c.flush_upto.ensures.premise flushed) began) (c.flush_upto.ensures.walks flushed began) walked c.args.outset.port
     c.args.outset.confirmed (g.O.Outlet.value c.args.out.now) (g.O.Outlet.value c.print.new.out) (done_as c.in_ok-confirmed.confirmed) (fault_of ℕ fault)
-    (done_says c.in_ok-confirmed.confirmed (fault_of ℕ fault) (flush_prints fault c.flush_upto-2.new.flusher.world.at c.in_err-_mark.ensures.refused)) (c.in_ok-confirmed.ensures.shown k there))
+    (done_says c.in_ok-confirmed.confirmed (fault_of ℕ fault) (flush_prints fault c.flush_upto-2.new.flusher.world.at c.in_err-_mark.ensures.refused)) (c.in_ok-confirmed.ensures.shown printed there))
 
 pub returns-clause-shown : goal.returns-clause-shown
 returns-clause-shown g c k began =
+    let again = same_premise c.settle.ensures.same k in
+    let printed = c.flush_upto-2.ensures.premise again in
+    let flushed = same_premise c.print.ensures.same printed in
     let start = g.J.Naming.formatted in
     let there = subst (Began start g.J.Naming.before) (sym c.flush_upto.ensures.process.opened) began in
     let later = subst (λ (f : Flushing). Began start g.J.Naming.before f.opened) (sym c.print.ensures.same) there in
-    let walked = subst (λ (f : Flushing). Walked f c.flush_upto-2.new.flusher) c.print.ensures.same (c.flush_upto-2.ensures.walks k later) in
+    let walked = subst (λ (f : Flushing). Walked f c.flush_upto-2.new.flusher) c.print.ensures.same (c.flush_upto-2.ensures.walks again later) in
     let was = g.O.Outlet.value c.args.out.now in
     let now = g.O.Outlet.value c.print.new.out in
     subst (λ (f : Flushing). MayPrint start c.args.flusher.now f c.args.outset.port c.args.outset.confirmed was now c.settle.result) (sym c.settle.ensures.same)
-    (may_print start c.args.flusher.now c.flush_upto.new.flusher c.flush_upto-2.new.flusher (c.known.ensures.reached k began) (c.flush_upto.ensures.walks k began) walked c.args.outset.port
+    (may_print start c.args.flusher.now c.flush_upto.new.flusher c.flush_upto-2.new.flusher (c.known.ensures.reached (c.flush_upto.ensures.premise flushed) began) (c.flush_upto.ensures.walks flushed began) walked c.args.outset.port
     c.args.outset.confirmed was now (done_as c.in_ok-confirmed.confirmed) c.settle.result (done_says c.in_ok-confirmed.confirmed c.settle.result c.settle.ensures.told)
-    (c.in_ok-confirmed.ensures.shown k there))
+    (c.in_ok-confirmed.ensures.shown printed there))
 
 -- ## What is settled
 
 pub returns-clause-settled : goal.returns-clause-settled
 returns-clause-settled g c k began =
+    let again = same_premise c.settle.ensures.same k in
+    let printed = c.flush_upto-2.ensures.premise again in
+    let flushed = same_premise c.print.ensures.same printed in
     let start = g.J.Naming.formatted in
     let was = (g.O.Outlet.value c.args.out.now).taken in
     let now = (g.O.Outlet.value c.print.new.out).taken in
@@ -91,9 +117,9 @@ returns-clause-settled g c k began =
     let O = c.in_ok-confirmed.ensures.receipt in
     let there = subst (Began start g.J.Naming.before) (sym c.flush_upto.ensures.process.opened) began in
     let later = subst (λ (f : Flushing). Began start g.J.Naming.before f.opened) (sym c.print.ensures.same) there in
-    let walked = subst (λ (f : Flushing). Walked f two) c.print.ensures.same (c.flush_upto-2.ensures.walks k later) in
-    let reached = walked_reached start c.args.flusher.now one (c.known.ensures.reached k began) (c.flush_upto.ensures.walks k began) in
-    let shows = (shows_on start one two reached walked c.args.outset.port c.args.outset.confirmed O.confirmed.first O.printed (O.are k there)).1 in
+    let walked = subst (λ (f : Flushing). Walked f two) c.print.ensures.same (c.flush_upto-2.ensures.walks again later) in
+    let reached = walked_reached start c.args.flusher.now one (c.known.ensures.reached (c.flush_upto.ensures.premise flushed) began) (c.flush_upto.ensures.walks flushed began) in
+    let shows = (shows_on start one two reached walked c.args.outset.port c.args.outset.confirmed O.confirmed.first O.printed (O.are printed there)).1 in
     let host = c.print.new.seat in
     let next = c.number-next.result in
     let S = c.settle.ensures in
@@ -114,6 +140,8 @@ returns-in_err-confirmed-clause-handed g c k began = inl c.in_err-confirmed.ensu
 
 pub returns-in_err-_mark-clause-handed : goal.returns-in_err-_mark-clause-handed
 returns-in_err-_mark-clause-handed g c k began =
+    let printed = c.flush_upto-2.ensures.premise k in
+    let flushed = same_premise c.print.ensures.same printed in
     let start = g.J.Naming.formatted in
     let one = c.flush_upto.new.flusher in
     let two = c.flush_upto-2.new.flusher in
@@ -121,21 +149,24 @@ returns-in_err-_mark-clause-handed g c k began =
     let there = subst (Began start g.J.Naming.before) (sym c.flush_upto.ensures.process.opened) began in
     let later = subst (λ (f : Flushing). Began start g.J.Naming.before f.opened) (sym c.print.ensures.same) there in
     let walked = subst (λ (f : Flushing). Walked f two) c.print.ensures.same (c.flush_upto-2.ensures.walks k later) in
-    let reached = walked_reached start c.args.flusher.now one (c.known.ensures.reached k began) (c.flush_upto.ensures.walks k began) in
-    let shows = (shows_on start one two reached walked c.args.outset.port c.args.outset.confirmed O.confirmed.first O.printed (O.are k there)).1 in
+    let reached = walked_reached start c.args.flusher.now one (c.known.ensures.reached (c.flush_upto.ensures.premise flushed) began) (c.flush_upto.ensures.walks flushed began) in
+    let shows = (shows_on start one two reached walked c.args.outset.port c.args.outset.confirmed O.confirmed.first O.printed (O.are printed there)).1 in
     inr (record { printed = O.printed; taken = O.appended; number = O.confirmed.first; shows = shows; handed = O.handed })
 
 pub returns-clause-handed : goal.returns-clause-handed
 returns-clause-handed g c k began =
+    let again = same_premise c.settle.ensures.same k in
+    let printed = c.flush_upto-2.ensures.premise again in
+    let flushed = same_premise c.print.ensures.same printed in
     let start = g.J.Naming.formatted in
     let one = c.flush_upto.new.flusher in
     let two = c.flush_upto-2.new.flusher in
     let O = c.in_ok-confirmed.ensures.receipt in
     let there = subst (Began start g.J.Naming.before) (sym c.flush_upto.ensures.process.opened) began in
     let later = subst (λ (f : Flushing). Began start g.J.Naming.before f.opened) (sym c.print.ensures.same) there in
-    let walked = subst (λ (f : Flushing). Walked f two) c.print.ensures.same (c.flush_upto-2.ensures.walks k later) in
-    let reached = walked_reached start c.args.flusher.now one (c.known.ensures.reached k began) (c.flush_upto.ensures.walks k began) in
-    let shows = (shows_on start one two reached walked c.args.outset.port c.args.outset.confirmed O.confirmed.first O.printed (O.are k there)).1 in
+    let walked = subst (λ (f : Flushing). Walked f two) c.print.ensures.same (c.flush_upto-2.ensures.walks again later) in
+    let reached = walked_reached start c.args.flusher.now one (c.known.ensures.reached (c.flush_upto.ensures.premise flushed) began) (c.flush_upto.ensures.walks flushed began) in
+    let shows = (shows_on start one two reached walked c.args.outset.port c.args.outset.confirmed O.confirmed.first O.printed (O.are printed there)).1 in
     inr (record {
       printed = O.printed;
       taken = O.appended;

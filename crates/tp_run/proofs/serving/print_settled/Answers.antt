@@ -1,5 +1,5 @@
 use Rattle.std.proofs.Common.{sym, ap, subst, ◌∙◌}
-use Rattle.tp_run.proofs.Lower.{Stage, Began, IsAheadOf, Flushing}
+use Rattle.tp_run.proofs.Lower.{AreTrue, Stage, Began, IsAheadOf, Flushing}
 use Rattle.tp_run.specs.Output.{PrintedOf}
 use Rattle.tp_run.proofs.Shown.{may_show, output_shown}
 use Rattle.tp_run.proofs.serving.print_settled.Goals as goal
@@ -29,7 +29,7 @@ pub returns-clause-receipt : goal.returns-clause-receipt
 returns-clause-receipt g c =
     let start = g.J.Naming.formatted in
     let w = c.args.flusher.now.world in
-    output_shown g.D.Disk.keeps _ start w c.settle_book.new.held.book c.args.outset.port c.args.mark c.args.outset.confirmed (g.O.Outlet.value c.args.out.now).taken
+    output_shown (AreTrue c.settle_book.new.self.reads) _ start w c.settle_book.new.held.book c.args.outset.port c.args.mark c.args.outset.confirmed (g.O.Outlet.value c.args.out.now).taken
     (g.O.Outlet.value c.print_from.new.out).taken c.args.seat.now c.print_from.new.seat c.args.key.now c.print_from.new.key c.print_from.result
     (λ k began. subst (λ (stage : Stage). IsAheadOf start w stage.book) (sym c.settle_book.ensures.same.1) (c.settle_book.ensures.ahead k began))
     c.requires.mark c.print_from.ensures.all c.print_from.ensures.receipt

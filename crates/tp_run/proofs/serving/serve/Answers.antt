@@ -16,7 +16,7 @@ returns-in-Err-clause-walks g c k began = walked_nowhere c.args.flusher (c.known
 
 pub returns-clause-walks : goal.returns-clause-walks
 returns-clause-walks g c k began =
-    walked_then c.args.flusher c.work-flusher.result.0 c.finish-done.new.flusher (c.work-flusher.ensures.walks k began)
+    walked_then c.args.flusher c.work-flusher.result.0 c.finish-done.new.flusher (c.work-flusher.ensures.walks (c.finish-done.ensures.premise k) began)
     (c.finish-done.ensures.walks k (subst (Began g.J.Naming.formatted g.J.Naming.before) (sym c.work-flusher.ensures.process.opened) began))
 
 pub returns-clause-settled : goal.returns-clause-settled
@@ -30,7 +30,8 @@ returns-clause-settled g c k began =
 pub returns-clause-shown : goal.returns-clause-shown
 returns-clause-shown g c k began =
     let there = subst (Began g.J.Naming.formatted g.J.Naming.before) (sym c.work-flusher.ensures.process.opened) began in
-    may_print_since g.J.Naming.formatted c.args.flusher c.work-flusher.result.0 c.finish-done.new.flusher (c.known.ensures.reached k began) (c.work-flusher.ensures.walks k began)
+    let worked = c.finish-done.ensures.premise k in
+    may_print_since g.J.Naming.formatted c.args.flusher c.work-flusher.result.0 c.finish-done.new.flusher (c.known.ensures.reached (c.work-flusher.ensures.premise worked) began) (c.work-flusher.ensures.walks worked began)
     (c.finish-done.ensures.walks k there) c.args.outset.port c.args.outset.confirmed (g.O.Outlet.value c.args.out.now) (g.O.Outlet.value c.finish-done.new.out) c.finish-done.result (c.finish-done.ensures.shown k there)
 
 -- ## What is handed in

@@ -32,3 +32,12 @@ answer_over-status-requires g c κs within =
     let made = alone ζ _ (alone ζ _ (⊑_refl ζ)) in
     let out = ⊑_meet ζ _ _ (alone ζ _ within.1.1.1.1.1.1.1.1.0) (⊑_meet ζ _ _ (⊑_meet ζ _ _ (⊑_refl ζ) within.1.1.1.1.1.1.1.1.0) (alone ζ _ (⊑_meet ζ _ _ made (alone ζ _ made)))) in
     (within.1.0, (within.1.1.0, (devices, (⊑_meet α _ _ device device, (⊑_meet β _ _ new new, (watch, (⊑_meet δ _ _ feed feed, (out, (⊑_static κs.1.1.1.1.1.1.1.1.1.1.1.1.1.1.1.1.0, (⊑_static κs.1.1.1.1.1.1.1.1.1.1.1.1.1.1.1.1.1.0, (within.1.1.1.1.1.1.1.1.1.0, (search (rules, sendable), (search (rules, sendable), search (rules, sendable))))))))))))))
+
+-- and so does the rival, who is lent what they are
+pub new-devices-requires : goal.new-devices-requires
+new-devices-requires g c κs within =
+    let κ = κs.1.1.0 in
+    let own = ⊑_refl κ in
+    let kept = alone κ _ own in
+    let other = ⊑_meet κ _ _ (alone κ _ within.1) (⊑_meet κ _ _ (⊑_meet κ _ _ own within.1) (⊑_meet κ _ _ kept (alone κ _ kept))) in
+    (within.0, (other, ⊑_static κs.1.1.1.0))

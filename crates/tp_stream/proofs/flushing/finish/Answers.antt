@@ -1,13 +1,18 @@
 use Rattle.std.proofs.Common.{length, rules, Err, sym, subst, ◌≡◌, ◌≤◌}
 use Rattle.std.specs.Prelude.{IfOk}
-use Rattle.tp_stream.proofs.Lower.{Began, Flushing, IsSameProcess, Walked}
+use Rattle.tp_stream.proofs.Lower.{AreTrue, Began, Flushing, IsSameProcess, Walked}
 use Rattle.tp_stream.specs.Failures.{FailedWhere, answer_failed}
 use Rattle.tp_stream.specs.Put.{EndsPut}
 use Rattle.tp_stream.proofs.Failures.{failed_still}
 use Rattle.tp_stream.proofs.flushing.finish.Goals as goal
 
+pub returns-clause-premise : goal.returns-clause-premise
+returns-clause-premise g c k = c.flush.ensures.premise (subst (λ (f : Flushing). AreTrue f.reads) c.last_of.ensures.same k)
+
 pub returns-clause-walks : goal.returns-clause-walks
-returns-clause-walks g c k began = subst (λ (f : Flushing). Walked c.args.flusher.now f) (sym c.last_of.ensures.same) (c.flush.ensures.walks k began)
+returns-clause-walks g c k began =
+    let was = subst (λ (f : Flushing). AreTrue f.reads) c.last_of.ensures.same k in
+    subst (λ (f : Flushing). Walked c.args.flusher.now f) (sym c.last_of.ensures.same) (c.flush.ensures.walks was began)
 
 pub returns-clause-process : goal.returns-clause-process
 returns-clause-process g c = subst (λ (f : Flushing). IsSameProcess c.args.flusher.now f) (sym c.last_of.ensures.same) c.flush.ensures.process

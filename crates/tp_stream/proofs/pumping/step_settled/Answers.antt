@@ -1,5 +1,5 @@
 use Rattle.std.proofs.Common.{◌≡◌, ◌≤◌, true, length, sym, ap, subst, ◌∙◌, arith}
-use Rattle.tp_stream.proofs.Lower.{next_in_book, Stage, IsAheadOf, Flushing, walked_nowhere}
+use Rattle.tp_stream.proofs.Lower.{AreTrue, next_in_book, Stage, IsAheadOf, Flushing, walked_nowhere}
 use Rattle.tp_stream.specs.Rooms.{UnreservedBook, has_room_for}
 use Rattle.tp_stream.proofs.Puts.{book_stands}
 use Rattle.tp_stream.proofs.Stepping.{stepped_under}
@@ -11,11 +11,12 @@ returns-clause-put g c k began =
     let f = c.args.flusher.now in
     let S = c.settle_book.ensures in
     let b = c.settle_book.new.held.book in
+    let was = subst (λ (f : Flushing). AreTrue f.reads) S.same.0 k in
     let ahead = subst (λ (stage : Stage). IsAheadOf start f.world stage.book) (sym S.same.1) (S.ahead k began) in
     let mark : c.mark-mark.result ≡ f.world.mark = c.mark-mark.ensures ∙ ap (λ (g : Flushing). g.world.mark) S.same.0 in
     let next : c.next-next.result ≡ next_in_book b = c.next-next.ensures ∙ ap next_in_book c.book.ensures in
     let stored : next_in_book b ≤ f.world.mark = let test = c.if-mark-next.false in omega (arith, mark, next, test) in
-    stepped_under start f b c.settle_book.new.self.world.mark (walked_nowhere f (c.known.ensures.disk k)) (book_stands start f.world b ahead stored) c.args.outputs.now c.step_all.new.outputs
+    stepped_under start f b c.settle_book.new.self.world.mark (walked_nowhere f (c.known.ensures.disk was)) (book_stands start f.world b ahead stored) c.args.outputs.now c.step_all.new.outputs
     c.step_all.ensures.puts
 
 pub returns-clause-room : goal.returns-clause-room

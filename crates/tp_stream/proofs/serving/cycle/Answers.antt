@@ -1,5 +1,5 @@
 use Rattle.std.proofs.Common.{rules, map, ◌≡◌, Err, length, refl, sym, subst}
-use Rattle.tp_stream.proofs.Lower.{Began, Flushing, walked_nowhere, given_input}
+use Rattle.tp_stream.proofs.Lower.{AreTrue, Began, Flushing, walked_nowhere, given_input}
 use Rattle.tp_stream.specs.Failures.{answer_failed, fault_failed}
 use Rattle.tp_stream.specs.Served.{ServedOn}
 use Rattle.tp_stream.proofs.FailedEnds.{flush_names_none, names_none}
@@ -19,17 +19,18 @@ returns-clause-served g c =
     let failed = answer_failed c.go_on.result in
     let was = c.args.streams.now.outputs.items in
     let now = c.go_on.new.streams.outputs.items in
-    let done : ServedOn g.D.Disk.keeps start before failed old mid was now =
+    let done : ServedOn start before failed old mid was now =
     record {
+      premise = c.flush.ensures.premise;
       walks = c.flush.ensures.walks;
       process = c.flush.ensures.process;
       put = λ k began.
           let there = subst (Began start before) (sym c.flush.ensures.process.opened) began in
           let W = c.flush.ensures.walks k began in
-          all_since start old mid mid W (walked_nowhere mid W.now) was now (c.go_on.ensures.put k there);
+          all_since start old mid mid W (walked_nowhere mid W.now) was now (c.go_on.ensures.put (subst (λ (f : Flushing). AreTrue f.reads) (sym c.go_on.ensures.same) k) there);
       failures = λ rests. failed_still failed old mid mid refl (between_unfailed c.go_on.result c.go_on.ensures.begun) (c.in_ok-flush.ensures.failures rests);
     } in
-    subst (λ (f : Flushing). ServedOn g.D.Disk.keeps start before failed old f was now) (sym c.go_on.ensures.same) done
+    subst (λ (f : Flushing). ServedOn start before failed old f was now) (sym c.go_on.ensures.same) done
 
 pub returns-clause-answer : goal.returns-clause-answer
 returns-clause-answer g c = record { why = c.go_on.ensures.why; inputs = c.go_on.ensures.inputs; begun = between_begun c.go_on.result c.go_on.ensures.begun }
@@ -50,8 +51,8 @@ returns-in_err-flush-clause-served g c =
     let was = c.args.streams.now.outputs.items in
     let fault = c.in_err-flush.field-0.0 in
     let is : c.from_residual.result ≡ Err fault = search rules in
-    subst (λ r. ServedOn g.D.Disk.keeps start before (answer_failed r) c.args.flusher.now c.flush.new.flusher was was) (sym is)
-    (served_still g.D.Disk.keeps start before (fault_failed fault) c.args.flusher.now c.flush.new.flusher was c.flush.ensures.walks c.flush.ensures.process c.in_err-flush.ensures.failures)
+    subst (λ r. ServedOn start before (answer_failed r) c.args.flusher.now c.flush.new.flusher was was) (sym is)
+    (served_still start before (fault_failed fault) c.args.flusher.now c.flush.new.flusher was c.flush.ensures.premise c.flush.ensures.walks c.flush.ensures.process c.in_err-flush.ensures.failures)
 
 pub returns-in_err-flush-clause-answer : goal.returns-in_err-flush-clause-answer
 returns-in_err-flush-clause-answer g c =

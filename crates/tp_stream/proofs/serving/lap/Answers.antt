@@ -13,5 +13,5 @@ returns-then-are_here-clause-served g c =
     let was = c.args.streams.now.outputs.items in
     let now = c.cycle-done.new.streams.outputs.items in
     let going : c.cycle-done.result ≡ Ok None = search rules in
-    served_until g.D.Disk.keeps start before (answer_failed c.go_beside.result) old mid c.go_beside.new.flusher was now
-    (subst (λ last. ServedOn g.D.Disk.keeps start before (answer_failed last) old mid was now) going c.cycle-done.ensures.served) c.go_beside.ensures.walks c.go_beside.ensures.process c.go_beside.ensures.failures
+    served_until start before (answer_failed c.go_beside.result) old mid c.go_beside.new.flusher was now
+    (subst (λ last. ServedOn start before (answer_failed last) old mid was now) going c.cycle-done.ensures.served) c.go_beside.ensures.premise c.go_beside.ensures.walks c.go_beside.ensures.process c.go_beside.ensures.failures

@@ -12,8 +12,8 @@ use Rattle.tp_stream.proofs.serving.laps.Goals as goal
 pub loop-init : goal.loop-init
 loop-init g c = record {
   served =
-      served_still g.D.Disk.keeps g.J.Naming.formatted g.J.Naming.before false c.args.flusher.now c.args.flusher.now c.args.streams.now.outputs.items
-      (λ k began. walked_nowhere c.args.flusher.now (c.known.ensures.disk k)) (record { opened = refl; size = refl; topology = refl })
+      served_still g.J.Naming.formatted g.J.Naming.before false c.args.flusher.now c.args.flusher.now c.args.streams.now.outputs.items
+      (λ k. k) (λ k began. walked_nowhere c.args.flusher.now (c.known.ensures.disk k)) (record { opened = refl; size = refl; topology = refl })
       (λ rests. none_failed c.args.flusher.now rests);
   answer = record { why = tt; inputs = tt; begun = tt };
   told = later_none (length g.J.Naming.start.nodes) (g.L.Listener.told c.args.listener.now);
@@ -34,8 +34,8 @@ loop-preserved g c =
     let going : c.loop.last ≡ Ok None = c.in-Ok-None.is ∙ ap Ok (rw c.in-Ok-None.is at c.in-Ok-None.field-0-is) in
     record {
       served =
-          served_then g.D.Disk.keeps start before (answer_failed c.lap-last.result) old c.loop.flusher c.lap-last.new.flusher was mid c.lap-last.new.streams.outputs.items
-          (subst (λ last. ServedOn g.D.Disk.keeps start before (answer_failed last) old c.loop.flusher was mid) going c.loop.invariant.served) c.lap-last.ensures.served;
+          served_then start before (answer_failed c.lap-last.result) old c.loop.flusher c.lap-last.new.flusher was mid c.lap-last.new.streams.outputs.items
+          (subst (λ last. ServedOn start before (answer_failed last) old c.loop.flusher was mid) going c.loop.invariant.served) c.lap-last.ensures.served;
       answer = c.lap-last.ensures.answer;
       told = later_then (length g.J.Naming.start.nodes) _ _ _ c.loop.invariant.told c.lap-last.ensures.told;
       looks =

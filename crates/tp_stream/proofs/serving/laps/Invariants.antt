@@ -13,7 +13,7 @@ use Rattle.tp_stream.proofs.serving.laps.Given as goal
 abbrev pub invariant-loop : goal.invariant-loop
 invariant-loop g l = record {
   served :
-      ServedOn g.D.Disk.keeps g.J.Naming.formatted g.J.Naming.before (answer_failed l.last) l.fn.flusher l.flusher l.fn.streams.outputs.items l.streams.outputs.items;
+      ServedOn g.J.Naming.formatted g.J.Naming.before (answer_failed l.last) l.fn.flusher l.flusher l.fn.streams.outputs.items l.streams.outputs.items;
   answer : ServedAnswer g.J.Naming.start l.ground.pace.task (list_all (λ i. is_over i.ended i.is_blocked) l.streams.inputs.items) l.last;
   told : ToldLater (length g.J.Naming.start.nodes) (g.L.Listener.told l.fn.listener) (g.L.Listener.told l.listener);
   looks : IfOk l.last (HaveLooked l.ground.pace.task (g.P.Stop.answers l.fn.stop) (g.P.Stop.answers l.stop));

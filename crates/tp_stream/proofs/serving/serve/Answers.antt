@@ -17,8 +17,8 @@ returns-in-Ok-clause-served g c =
     let mid = c.lead-going.new.flusher in
     let was = c.args.streams.now.outputs.items in
     let now = c.lead-going.new.streams.outputs.items in
-    served_until g.D.Disk.keeps start before false old mid c.finish.new.flusher was now
-    (subst (λ last. ServedOn g.D.Disk.keeps start before (answer_failed last) old mid was now) c.in-Ok-Some.is c.lead-going.ensures.served) c.finish.ensures.walks c.finish.ensures.process c.in-Ok.ensures.failures
+    served_until start before false old mid c.finish.new.flusher was now
+    (subst (λ last. ServedOn start before (answer_failed last) old mid was now) c.in-Ok-Some.is c.lead-going.ensures.served) c.finish.ensures.premise c.finish.ensures.walks c.finish.ensures.process c.in-Ok.ensures.failures
 
 pub returns-clause-served : goal.returns-clause-served
 returns-clause-served g c =
@@ -28,8 +28,8 @@ returns-clause-served g c =
     let mid = c.lead-going.new.flusher in
     let was = c.args.streams.now.outputs.items in
     let now = c.lead-going.new.streams.outputs.items in
-    served_until g.D.Disk.keeps start before (fault_failed c.in-Err-finish.fault) old mid c.finish.new.flusher was now
-    (subst (λ last. ServedOn g.D.Disk.keeps start before (answer_failed last) old mid was now) c.in-Ok-Some.is c.lead-going.ensures.served) c.finish.ensures.walks c.finish.ensures.process
+    served_until start before (fault_failed c.in-Err-finish.fault) old mid c.finish.new.flusher was now
+    (subst (λ last. ServedOn start before (answer_failed last) old mid was now) c.in-Ok-Some.is c.lead-going.ensures.served) c.finish.ensures.premise c.finish.ensures.walks c.finish.ensures.process
     c.in-Err-finish.ensures.failures
 
 pub returns-in-Ok-clause-last : goal.returns-in-Ok-clause-last

@@ -1,6 +1,6 @@
 use Rattle.std.proofs.Common.{◌≡◌, map, drop, Ok, Err, Some, false, refl, sym, ap, subst, ◌∙◌}
 use Rattle.std.specs.Prelude.{IfOk}
-use Rattle.tp_stream.proofs.Lower.{NodeState, State, held_of, next_of, verdict, World, reopened, node_count, Began, Flushing, given_input}
+use Rattle.tp_stream.proofs.Lower.{AreTrue, NodeState, State, held_of, next_of, verdict, World, reopened, node_count, Began, Flushing, given_input}
 use Rattle.tp_stream.specs.Failures.{answer_failed, calls_failed}
 use Rattle.tp_stream.specs.Looks.{HaveLooked}
 use Rattle.tp_stream.specs.Put.{ServedInto}
@@ -19,6 +19,11 @@ use Rattle.tp_stream.proofs.Runs.{served, unserved}
 use Rattle.tp_stream.proofs.Started.{accepted_made, nodes_of, ports_of, wires_of}
 use Rattle.tp_stream.proofs.streaming.stream_parts.Goals as goal
 
+pub returns-clause-premise : goal.returns-clause-premise
+returns-clause-premise g c k =
+    let new = subst (λ (f : Flushing). AreTrue f.reads) c.settle_host_under.ensures.same.0 (subst AreTrue c.into_disk-2.ensures.reads k) in
+    subst AreTrue c.over-flusher.ensures.device.1 (c.serve-done.ensures.served.premise new)
+
 pub returns-clause-streamed : goal.returns-clause-streamed
 returns-clause-streamed g c k began =
     let start = g.J.Naming.formatted in
@@ -27,10 +32,13 @@ returns-clause-streamed g c k began =
     let old = c.over-flusher.result in
     let new = c.serve-done.new.flusher in
     let done = c.serve-done.result.0 in
+    let settled : AreTrue c.settle_host_under.new.self.reads = subst AreTrue c.into_disk-2.ensures.reads k in
+    let later_true : AreTrue new.reads = subst (λ (f : Flushing). AreTrue f.reads) c.settle_host_under.ensures.same.0 settled in
+    let first_true : AreTrue old.reads = c.serve-done.ensures.served.premise later_true in
     let device = sym c.over-flusher.ensures.device.0 in
     let first : Began start before old.opened = subst (Began start before) (sym c.over-flusher.ensures.opened) began in
     let there : Began start before old.state.now.bytes = subst (λ (s : State). Began start before s.now.bytes) device began in
-    let reads : verdict old.state.now.bytes ≡ Ok o = subst (λ (s : State). verdict s.now.bytes ≡ Ok o) device (c.requires.read k) in
+    let reads : verdict old.state.now.bytes ≡ Ok o = subst (λ (s : State). verdict s.now.bytes ≡ Ok o) device (c.requires.read (subst AreTrue c.over-flusher.ensures.device.1 first_true)) in
     let world : old.world ≡ reopened before old.state.now.bytes (held_of o) o.now = subst (λ (s : State). old.world ≡ reopened before s.now.bytes (held_of o) o.now) device c.over-flusher.ensures.world in
     let was = c.args.streams.now.outputs.items in
     let now = c.serve-done.new.streams.outputs.items in
@@ -40,11 +48,11 @@ returns-clause-streamed g c k began =
     let none : AreHandedFrom inputs g.J.Naming.accepted c.new-going.result.host =
     subst (AreHandedFrom inputs g.J.Naming.accepted) (sym (c.new-going.ensures.host ∙ c.in-Ok.ensures.host)) (handed_none inputs g.J.Naming.accepted) in
     let fed : AreHandedFrom inputs g.J.Naming.accepted (drop g.J.Naming.first new.world.journal) =
-    front_from inputs g.J.Naming.accepted c.serve-done.result.1 (drop g.J.Naming.first new.world.journal) (c.settle_host_under.ensures.handed k later) (S.fed.fed none) in
+    front_from inputs g.J.Naming.accepted c.serve-done.result.1 (drop g.J.Naming.first new.world.journal) (c.settle_host_under.ensures.handed settled later) (S.fed.fed none) in
     let state = c.into_disk-2.ensures.state ∙ ap (λ (f : Flushing). f.state) c.settle_host_under.ensures.same.0 in
     subst (λ s. ServedInto start (next_of o) inputs (accepted_opened o) done was now (g.D.Disk.state c.args.device.store.disk) s) (sym state)
     (subst (λ s. ServedInto start (next_of o) inputs (accepted_opened o) done was now s new.state) c.over-flusher.ensures.device.0
-    (served start before o old new done there reads world (c.known.ensures.reached k first) (S.served.walks k first) S.stored (S.last k first) was now (S.served.put k first) (S.put k first) inputs (accepted_opened o)
+    (served start before o old new done there reads world (c.known.ensures.reached first_true first) (S.served.walks later_true first) S.stored (S.last later_true first) was now (S.served.put later_true first) (S.put later_true first) inputs (accepted_opened o)
     (handed_as inputs g.J.Naming.accepted (accepted_opened o) (drop (next_of o) new.world.journal) (λ p. sym (c.requires.names.accepted_is p) ∙ accepted_made o c.args.device.parts.book p c.requires.stands.book)
     (subst (λ n. AreHandedFrom inputs g.J.Naming.accepted (drop n new.world.journal)) (sym c.requires.names.first_is ∙ c.requires.stands.first) fed))))
 
@@ -79,7 +87,7 @@ pub returns-clause-failures : goal.returns-clause-failures
 returns-clause-failures g c =
     let done = c.serve-done.result.0 in
     let F = c.serve-done.ensures.served.failures (ap (λ (w : World NodeState). w.at) c.over-flusher.ensures.world) in
-    c.into_disk-2.ensures.failures ∙ ap (λ (f : Flushing). f.failures) c.settle_host_under.ensures.same.0 ∙ F.calls ∙ ap (λ n. calls_failed (answer_failed done) n) c.over-flusher.ensures.device.2
+    c.into_disk-2.ensures.failures ∙ ap (λ (f : Flushing). f.failures) c.settle_host_under.ensures.same.0 ∙ F.calls ∙ ap (λ n. calls_failed (answer_failed done) n) c.over-flusher.ensures.device.3
 
 pub serve-done-requires-clause-seats : goal.serve-done-requires-clause-seats
 serve-done-requires-clause-seats g c κs within k d there =
@@ -92,6 +100,9 @@ serve-done-requires-clause-team g c κs within =
     (c.pace_of-pace.ensures.workers ∙ ap (λ (t : Task). team_of t.workers (node_count c.args.device.topology)) (sym c.pace_of-pace.ensures.task) ∙ ap (team_of pace.task.workers) (sym many), c.in-Ok.ensures.count.0)
 
 -- ## Where there is no memory for workers
+
+pub returns-in_default-clause-premise : goal.returns-in_default-clause-premise
+returns-in_default-clause-premise g c k = subst (λ d. AreTrue (g.D.Disk.reads d)) c.into_disk.ensures k
 
 pub returns-in_default-clause-streamed : goal.returns-in_default-clause-streamed
 returns-in_default-clause-streamed g c k began =

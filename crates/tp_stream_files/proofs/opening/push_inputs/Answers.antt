@@ -1,5 +1,5 @@
 use Rattle.std.proofs.Common.{◌<◌, arith, ap, sym, ◌∙◌, append-nil, length, get_or}
-use Rattle.tp_stream_files.specs.declared.ends.PortFile.{PortFile}
+use Rattle.tp_stream_files.specs.Named.{input_from}
 use Rattle.tp_stream_files.proofs.Pushed.{map_more_behind}
 use Rattle.tp_stream_files.proofs.Keeping.{keeps_none, keeps_then}
 use Rattle.tp_stream_files.proofs.opening.push_inputs.Goals as goal
@@ -8,12 +8,12 @@ pub returns-in_err-push_input-clause-kept : goal.returns-in_err-push_input-claus
 returns-in_err-push_input-clause-kept g c = keeps_then _ _ _ c.loop-end.invariant.kept c.push_input.ensures.kept
 
 pub loop-end-init : goal.loop-end-init
-loop-end-init g c = record { kept = keeps_none _; ports = sym (append-nil _) }
+loop-end-init g c = record { kept = keeps_none _; inputs = sym (append-nil _) }
 
 pub loop-end-preserved : goal.loop-end-preserved
 loop-end-preserved g c = record {
   kept = keeps_then _ _ _ c.loop-end.invariant.kept c.push_input.ensures.kept;
-  ports =
+  inputs =
       let end = c.end-item.result in
       let index = c.loop-end.end-index in
       let ins = c.args.ends.now.ins.items in
@@ -21,6 +21,6 @@ loop-end-preserved g c = record {
       let long = ap length same in
       let test = c.loop-end-test.true in
       let low : index < length ins = omega (arith, test, long) in
-      map_more_behind (λ (end : PortFile). end.port) ins index end _ _ _ low c.loop-end.invariant.ports
-      (ap (λ (end : PortFile). end.port) (c.end-item.is ∙ ap (λ ends. get_or ends index end) same)) c.in_ok-push_input.ensures.ports;
+      map_more_behind input_from ins index end _ _ _ low c.loop-end.invariant.inputs
+      (ap input_from (c.end-item.is ∙ ap (λ ends. get_or ends index end) same)) c.in_ok-push_input.ensures.inputs;
 }

@@ -1,6 +1,7 @@
 use Rattle.std.proofs.Common.{◌≡◌, ℕ, List, Option, Some, None, refl, sym, ap, subst, Result, Ok, Err, OnOk}
 use Rattle.std.specs.Prelude.{Vec, IfErr, is_some}
-use Rattle.tp_views.proofs.Lower.{Global, Appends, NodeState, OutputAs, fresh_image, TryFault, BadImage, Memory}
+use Rattle.tp_views.proofs.Lower.{Global, Appends, NodeState, OutputAs, fresh_image, TryFault, BadImage}
+use Rattle.tp_turn.specs.declared.image.TryFault.TheVariants.{Memory}
 use Rattle.tp_views.specs.declared.refusal.Refusal.{Refusal}
 use Rattle.tp_views.specs.declared.refusal.Refusal.TheVariants.{DeviceFailed, Trial}
 use Rattle.tp_views.specs.declared.commands.TheConstants.{TRY_QUANTUM}

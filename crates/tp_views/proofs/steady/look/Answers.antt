@@ -9,11 +9,11 @@ returns-in-Ok-read_fronts-clause-counts g c = record {
 }
 
 pub returns-in-Ok-read_fronts-clause-leaves : goal.returns-in-Ok-read_fronts-clause-leaves
-returns-in-Ok-read_fronts-clause-leaves g c k =
+returns-in-Ok-read_fronts-clause-leaves g c =
     then_leaves (g.D.Disk.state c.args.disk.now) (g.D.Disk.state c.read_head.new.disk) (g.D.Disk.state c.read_fronts.new.disk)
-    (c.read_head.ensures.leaves k) (c.read_fronts.ensures.leaves k)
+    c.read_head.ensures.leaves c.read_fronts.ensures.leaves
 
 pub returns-in-Err-read_fronts-clause-leaves : goal.returns-in-Err-read_fronts-clause-leaves
-returns-in-Err-read_fronts-clause-leaves g c k =
+returns-in-Err-read_fronts-clause-leaves g c =
     then_leaves (g.D.Disk.state c.args.disk.now) (g.D.Disk.state c.read_head.new.disk) (g.D.Disk.state c.read_fronts.new.disk)
-    (c.read_head.ensures.leaves k) (c.read_fronts.ensures.leaves k)
+    c.read_head.ensures.leaves c.read_fronts.ensures.leaves

@@ -9,12 +9,12 @@ returns-clause-counts g c = record {
 }
 
 pub returns-clause-leaves : goal.returns-clause-leaves
-returns-clause-leaves g c k =
-    then_leaves _ _ _ (then_leaves _ _ _ (c.read_front.ensures.leaves k) (c.read_front-2.ensures.leaves k)) (c.read_front-3.ensures.leaves k)
+returns-clause-leaves g c =
+    then_leaves _ _ _ (then_leaves _ _ _ c.read_front.ensures.leaves c.read_front-2.ensures.leaves) c.read_front-3.ensures.leaves
 
 pub returns-in_default-read_front-clause-leaves : goal.returns-in_default-read_front-clause-leaves
-returns-in_default-read_front-clause-leaves g c k = then_leaves _ _ _ (c.read_front.ensures.leaves k) (c.read_front-2.ensures.leaves k)
+returns-in_default-read_front-clause-leaves g c = then_leaves _ _ _ c.read_front.ensures.leaves c.read_front-2.ensures.leaves
 
 pub returns-in_default-read_front-2-clause-leaves : goal.returns-in_default-read_front-2-clause-leaves
-returns-in_default-read_front-2-clause-leaves g c k =
-    then_leaves _ _ _ (then_leaves _ _ _ (c.read_front.ensures.leaves k) (c.read_front-2.ensures.leaves k)) (c.read_front-3.ensures.leaves k)
+returns-in_default-read_front-2-clause-leaves g c =
+    then_leaves _ _ _ (then_leaves _ _ _ c.read_front.ensures.leaves c.read_front-2.ensures.leaves) c.read_front-3.ensures.leaves

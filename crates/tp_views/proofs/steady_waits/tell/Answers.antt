@@ -16,10 +16,10 @@ pub returns-clause-is : goal.returns-clause-is
 returns-clause-is g c k =
     let form = c.args.form in
     let maps = maps_seen c.args.maps.now in
-    let opens = c.in_ok-opened.ensures.is k in
-    let same = ap (λ m. m.bytes) (c.in_ok-opened.ensures.kept k) in
+    let opens = c.in_ok-opened.ensures.is (c.tell_opened.ensures.premise k) in
+    let same = ap (λ m. m.bytes) c.in_ok-opened.ensures.kept in
     let told = c.tell_opened.ensures.is k (ap verdict same ∙ opens) in
     subst (λ (given : Result Opened OpenFault). ReadAnswer string_bytes (waits_told form maps given) c.tell_opened.result) (sym opens) told
 
 pub returns-clause-leaves : goal.returns-clause-leaves
-returns-clause-leaves g c k = then_leaves _ _ _ (c.open.ensures.leaves k) (c.tell_opened.ensures.leaves k)
+returns-clause-leaves g c = then_leaves _ _ _ c.open.ensures.leaves c.tell_opened.ensures.leaves

@@ -16,8 +16,8 @@ invariant_of-self-2-clause-placed g c k unbroken =
     let old = g.D.Disk.state a.disk in
     let new = g.D.Disk.state c.close_gate.new.disk in
     let gate = gate_inside a.place.areas (g.D.Disk.size_of a.disk) c.area_start-gate.result a.place.end a.place.second c.area_start-gate.ensures a.whole a.behind a.inside in
-    let inside : other_gate a.place < length old.now.bytes = omega (arith, c.area_start-gate.ensures, g.met.D.Disk.whole k a.disk) in
-    cleared_place a.place old new (some_area a.place.areas a.place.end a.place.second a.behind a.inside) (a.placed k c.if-self.false) inside
+    let inside : other_gate a.place < length old.now.bytes = omega (arith, c.area_start-gate.ensures, g.met.D.Disk.whole a.disk) in
+    cleared_place a.place old new (some_area a.place.areas a.place.end a.place.second a.behind a.inside) (a.placed (c.close_gate.ensures.premise k) c.if-self.false) inside
     (subst (λ gate. Called (clear_calls (if_open gate old.now.bytes)) old new) c.area_start-gate.ensures (c.in-Ok.ensures.called k))
 
 pub returns-clause-cleared : goal.returns-clause-cleared
@@ -26,8 +26,8 @@ returns-clause-cleared g c k =
     let old = g.D.Disk.state a.disk in
     let new = g.D.Disk.state c.close_gate.new.disk in
     let gate = gate_inside a.place.areas (g.D.Disk.size_of a.disk) c.area_start-gate.result a.place.end a.place.second c.area_start-gate.ensures a.whole a.behind a.inside in
-    let inside : other_gate a.place < length old.now.bytes = omega (arith, c.area_start-gate.ensures, g.met.D.Disk.whole k a.disk) in
-    cleared_by a.place old new (a.placed k c.if-self.false) inside
+    let inside : other_gate a.place < length old.now.bytes = omega (arith, c.area_start-gate.ensures, g.met.D.Disk.whole a.disk) in
+    cleared_by a.place old new (a.placed (c.close_gate.ensures.premise k) c.if-self.false) inside
     (subst (λ gate. Called (clear_calls (if_open gate old.now.bytes)) old new) c.area_start-gate.ensures (c.in-Ok.ensures.called k))
 
 pub returns-then-self-clause-leaves : goal.returns-then-self-clause-leaves
@@ -38,7 +38,7 @@ returns-in_default-clause-leaves g c k =
     let a = c.args.self.now in
     let old = g.D.Disk.state a.disk in
     let new = g.D.Disk.state c.close_gate.new.disk in
-    clear_leaves c.close_gate.result a.place old new (a.placed k c.if-self.false)
+    clear_leaves c.close_gate.result a.place old new (a.placed (c.close_gate.ensures.premise k) c.if-self.false)
     (subst (λ gate. OnOk c.close_gate.result (Called (clear_calls (if_open gate old.now.bytes)) old new)) c.area_start-gate.ensures (c.close_gate.ensures.called k))
     (subst (λ gate. OnErr c.close_gate.result (Broke (clear_calls (if_open gate old.now.bytes)) old new)) c.area_start-gate.ensures (c.close_gate.ensures.broke k))
 
@@ -47,7 +47,7 @@ returns-clause-leaves g c k =
     let a = c.args.self.now in
     let old = g.D.Disk.state a.disk in
     let new = g.D.Disk.state c.close_gate.new.disk in
-    clear_leaves c.close_gate.result a.place old new (a.placed k c.if-self.false)
+    clear_leaves c.close_gate.result a.place old new (a.placed (c.close_gate.ensures.premise k) c.if-self.false)
     (subst (λ gate. OnOk c.close_gate.result (Called (clear_calls (if_open gate old.now.bytes)) old new)) c.area_start-gate.ensures (c.close_gate.ensures.called k))
     (subst (λ gate. OnErr c.close_gate.result (Broke (clear_calls (if_open gate old.now.bytes)) old new)) c.area_start-gate.ensures (c.close_gate.ensures.broke k))
 

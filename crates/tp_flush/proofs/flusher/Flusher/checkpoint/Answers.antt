@@ -17,7 +17,7 @@ returns-in_err-images-clause-checkpointed g c =
 
 pub returns-in_err-images-clause-goes : goal.returns-in_err-images-clause-goes
 returns-in_err-images-clause-goes g c =
-    goes_then g.D.Disk.keeps g.J.Naming.formatted g.J.Naming.before c.args.self.now c.clear.new.self c.copy_images.new.self c.clear.ensures.goes c.copy_images.ensures.goes
+    goes_then g.J.Naming.formatted g.J.Naming.before c.args.self.now c.clear.new.self c.copy_images.new.self c.clear.ensures.goes c.copy_images.ensures.goes
 
 pub switch-requires : goal.switch-requires
 switch-requires g c = record { rests = c.in_ok-images.ensures.tried.waits.rested.rests; cleared = c.in_ok-images.ensures.tried.cleared c.clear.ensures.cleared }
@@ -29,8 +29,8 @@ returns-in_err-switched-clause-checkpointed g c =
 
 pub returns-in_err-switched-clause-goes : goal.returns-in_err-switched-clause-goes
 returns-in_err-switched-clause-goes g c =
-    goes_then g.D.Disk.keeps g.J.Naming.formatted g.J.Naming.before c.args.self.now c.copy_images.new.self c.switch.new.self
-    (goes_then g.D.Disk.keeps g.J.Naming.formatted g.J.Naming.before c.args.self.now c.clear.new.self c.copy_images.new.self c.clear.ensures.goes c.copy_images.ensures.goes) c.switch.ensures.goes
+    goes_then g.J.Naming.formatted g.J.Naming.before c.args.self.now c.copy_images.new.self c.switch.new.self
+    (goes_then g.J.Naming.formatted g.J.Naming.before c.args.self.now c.clear.new.self c.copy_images.new.self c.clear.ensures.goes c.copy_images.ensures.goes) c.switch.ensures.goes
 
 pub returns-clause-checkpointed : goal.returns-clause-checkpointed
 returns-clause-checkpointed g c =
@@ -39,8 +39,8 @@ returns-clause-checkpointed g c =
 
 pub returns-clause-goes : goal.returns-clause-goes
 returns-clause-goes g c =
-    goes_then g.D.Disk.keeps g.J.Naming.formatted g.J.Naming.before c.args.self.now c.copy_images.new.self c.switch.new.self
-    (goes_then g.D.Disk.keeps g.J.Naming.formatted g.J.Naming.before c.args.self.now c.clear.new.self c.copy_images.new.self c.clear.ensures.goes c.copy_images.ensures.goes) c.switch.ensures.goes
+    goes_then g.J.Naming.formatted g.J.Naming.before c.args.self.now c.copy_images.new.self c.switch.new.self
+    (goes_then g.J.Naming.formatted g.J.Naming.before c.args.self.now c.clear.new.self c.copy_images.new.self c.clear.ensures.goes c.copy_images.ensures.goes) c.switch.ensures.goes
 
 pub returns-in_default-clause-imaged : goal.returns-in_default-clause-imaged
 returns-in_default-clause-imaged g c stays =

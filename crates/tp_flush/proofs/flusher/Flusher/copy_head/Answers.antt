@@ -17,14 +17,14 @@ returns-in_err-put-clause-tried g c =
 
 pub returns-in_err-put-clause-goes : goal.returns-in_err-put-clause-goes
 returns-in_err-put-clause-goes g c =
-    goes_then g.D.Disk.keeps g.J.Naming.formatted g.J.Naming.before c.args.self.now c.read_head.new.self c.put.new.self c.read_head.ensures.goes c.in_err-put.ensures.goes
+    goes_then g.J.Naming.formatted g.J.Naming.before c.args.self.now c.read_head.new.self c.put.new.self c.read_head.ensures.goes c.in_err-put.ensures.goes
 
 pub returns-clause-tried : goal.returns-clause-tried
 returns-clause-tried g c = went_then c.args.self.now c.read_head.new.self c.put.new.self c.read_head.ensures.went c.in_ok-put.ensures.tried
 
 pub returns-clause-goes : goal.returns-clause-goes
 returns-clause-goes g c =
-    goes_then g.D.Disk.keeps g.J.Naming.formatted g.J.Naming.before c.args.self.now c.read_head.new.self c.put.new.self c.read_head.ensures.goes c.in_ok-put.ensures.goes
+    goes_then g.J.Naming.formatted g.J.Naming.before c.args.self.now c.read_head.new.self c.put.new.self c.read_head.ensures.goes c.in_ok-put.ensures.goes
 
 pub returns-clause-stands : goal.returns-clause-stands
 returns-clause-stands g c k = λ found.

@@ -24,7 +24,7 @@ loop-done-preserved g c =
     record {
       within = omega arith;
       went = went_then c.args.self.now c.loop-done.self c.copy_pages.new.self I.went c.in_ok-copy_pages.ensures.tried;
-      goes = goes_then g.D.Disk.keeps g.J.Naming.formatted g.J.Naming.before c.args.self.now c.loop-done.self c.copy_pages.new.self I.goes c.copy_pages.ensures.goes;
+      goes = goes_then g.J.Naming.formatted g.J.Naming.before c.args.self.now c.loop-done.self c.copy_pages.new.self I.goes c.copy_pages.ensures.goes;
       same = c.copy_pages.ensures.same ∙ I.same;
       stands = λ k. subst (λ n. IsPartOut v.topology v.world.net (content_beside v.place v.state) c.args.node (c.loop-done.done + n)) long (c.in_ok-copy_pages.ensures.stands k c.if-not-branch-2.false);
       recorded = (I.recorded.0, c.in_ok-copy_pages.ensures.tried.frozen c.args.node I.recorded.0 I.recorded.1);
@@ -42,7 +42,7 @@ returns-in_err-copy_pages-clause-tried g c =
 
 pub returns-in_err-copy_pages-clause-goes : goal.returns-in_err-copy_pages-clause-goes
 returns-in_err-copy_pages-clause-goes g c =
-    goes_then g.D.Disk.keeps g.J.Naming.formatted g.J.Naming.before c.args.self.now c.loop-done.self c.copy_pages.new.self c.loop-done.invariant.goes c.copy_pages.ensures.goes
+    goes_then g.J.Naming.formatted g.J.Naming.before c.args.self.now c.loop-done.self c.copy_pages.new.self c.loop-done.invariant.goes c.copy_pages.ensures.goes
 
 pub returns-clause-tried : goal.returns-clause-tried
 returns-clause-tried g c = c.loop-done.invariant.went
@@ -52,7 +52,7 @@ returns-clause-goes g c = c.loop-done.invariant.goes
 
 pub returns-then-not-branch-2-clause-goes : goal.returns-then-not-branch-2-clause-goes
 returns-then-not-branch-2-clause-goes g c =
-    goes_then g.D.Disk.keeps g.J.Naming.formatted g.J.Naming.before c.args.self.now c.loop-done.self c.copy_pages.new.self c.loop-done.invariant.goes c.copy_pages.ensures.goes
+    goes_then g.J.Naming.formatted g.J.Naming.before c.args.self.now c.loop-done.self c.copy_pages.new.self c.loop-done.invariant.goes c.copy_pages.ensures.goes
 
 pub copy_pages-requires-clause-free : goal.copy_pages-requires-clause-free
 copy_pages-requires-clause-free g c = ap (λ (p : Progress). is_out p c.args.node) c.loop-done.invariant.same ∙ c.requires.free

@@ -8,7 +8,7 @@ use Rattle.tp_flush.proofs.flusher.Flusher.copy_images.Goals as goal
 pub loop-node-init : goal.loop-node-init
 loop-node-init g c = record {
   went = went_still c.args.self.now c.requires.rests;
-  goes = goes_still g.D.Disk.keeps g.J.Naming.formatted g.J.Naming.before c.args.self.now c.known.ensures.disk;
+  goes = goes_still g.J.Naming.formatted g.J.Naming.before c.args.self.now c.known.ensures.disk;
   place = refl;
   stay = λ i out. out;
   out = λ i low. absurd (omega (arith, low));
@@ -21,7 +21,7 @@ loop-node-preserved g c =
     let E = c.in_ok-done.ensures in
     record {
       went = went_then c.args.self.now c.loop-node.self now I.went E.tried;
-      goes = goes_then g.D.Disk.keeps g.J.Naming.formatted g.J.Naming.before c.args.self.now c.loop-node.self now I.goes c.copy_node.ensures.goes;
+      goes = goes_then g.J.Naming.formatted g.J.Naming.before c.args.self.now c.loop-node.self now I.goes c.copy_node.ensures.goes;
       place = c.image_behind-image.ensures;
       stay = stay_then c.args.self.now.progress c.loop-node.self.progress now.progress I.stay c.copy_node.ensures.stay;
       out = λ i low here. elim (cases_lt i c.loop-node.node) [
@@ -49,7 +49,7 @@ returns-in_err-done-clause-tried g c =
 
 pub returns-in_err-done-clause-goes : goal.returns-in_err-done-clause-goes
 returns-in_err-done-clause-goes g c =
-    goes_then g.D.Disk.keeps g.J.Naming.formatted g.J.Naming.before c.args.self.now c.loop-node.self c.copy_node.new.self c.loop-node.invariant.goes c.copy_node.ensures.goes
+    goes_then g.J.Naming.formatted g.J.Naming.before c.args.self.now c.loop-node.self c.copy_node.new.self c.loop-node.invariant.goes c.copy_node.ensures.goes
 
 pub returns-clause-tried : goal.returns-clause-tried
 returns-clause-tried g c = c.loop-node.invariant.went
@@ -61,4 +61,4 @@ returns-clause-goes g c = c.loop-node.invariant.goes
 
 pub returns-in-Err-clause-goes : goal.returns-in-Err-clause-goes
 returns-in-Err-clause-goes g c =
-    goes_then g.D.Disk.keeps g.J.Naming.formatted g.J.Naming.before c.args.self.now c.loop-node.self c.copy_node.new.self c.loop-node.invariant.goes c.copy_node.ensures.goes
+    goes_then g.J.Naming.formatted g.J.Naming.before c.args.self.now c.loop-node.self c.copy_node.new.self c.loop-node.invariant.goes c.copy_node.ensures.goes

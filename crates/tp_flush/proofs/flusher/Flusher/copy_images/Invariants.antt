@@ -9,7 +9,7 @@ use Rattle.tp_flush.proofs.flusher.Flusher.copy_images.Given as goal
 abbrev pub invariant-loop-node : goal.invariant-loop-node
 invariant-loop-node g l = record {
   went : NothingStored l.fn.self l.self;
-  goes : FlushedOn g.D.Disk.keeps g.J.Naming.formatted g.J.Naming.before l.fn.self l.self;
+  goes : FlushedOn g.J.Naming.formatted g.J.Naming.before l.fn.self l.self;
   place : l.image ≡ piece_place l.self.topology l.node 0;
   stay : StayOut l.fn.self.progress l.self.progress;
   out : (i : ℕ) → i < l.node → get_or l.look.recorded i false ≡ true → is_out l.self.progress i ≡ true;

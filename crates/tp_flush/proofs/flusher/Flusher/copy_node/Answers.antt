@@ -7,7 +7,7 @@ returns-clause-tried g c = went_then c.args.self.now c.copy_image.new.self c.let
 
 pub returns-clause-goes : goal.returns-clause-goes
 returns-clause-goes g c =
-    goes_then g.D.Disk.keeps g.J.Naming.formatted g.J.Naming.before c.args.self.now c.copy_image.new.self c.let_go.new.self c.copy_image.ensures.goes c.let_go.ensures.goes
+    goes_then g.J.Naming.formatted g.J.Naming.before c.args.self.now c.copy_image.new.self c.let_go.new.self c.copy_image.ensures.goes c.let_go.ensures.goes
 
 pub returns-clause-stay : goal.returns-clause-stay
 returns-clause-stay g c =

@@ -18,14 +18,14 @@ returns-in_err-put-clause-tried g c =
 
 pub returns-in_err-put-clause-goes : goal.returns-in_err-put-clause-goes
 returns-in_err-put-clause-goes g c =
-    goes_then g.D.Disk.keeps g.J.Naming.formatted g.J.Naming.before c.args.self.now c.read_pages.new.self c.put.new.self c.read_pages.ensures.goes c.put.ensures.goes
+    goes_then g.J.Naming.formatted g.J.Naming.before c.args.self.now c.read_pages.new.self c.put.new.self c.read_pages.ensures.goes c.put.ensures.goes
 
 pub returns-clause-tried : goal.returns-clause-tried
 returns-clause-tried g c = went_then c.args.self.now c.read_pages.new.self c.put.new.self c.read_pages.ensures.went c.in_ok-put.ensures.tried
 
 pub returns-clause-goes : goal.returns-clause-goes
 returns-clause-goes g c =
-    goes_then g.D.Disk.keeps g.J.Naming.formatted g.J.Naming.before c.args.self.now c.read_pages.new.self c.put.new.self c.read_pages.ensures.goes c.put.ensures.goes
+    goes_then g.J.Naming.formatted g.J.Naming.before c.args.self.now c.read_pages.new.self c.put.new.self c.read_pages.ensures.goes c.put.ensures.goes
 
 pub returns-clause-stands : goal.returns-clause-stands
 returns-clause-stands g c k = λ found.
@@ -44,7 +44,7 @@ returns-clause-stands g c k = λ found.
     let bytes : c.joined.result.now ≡ flat_map (λ (page : List ℕ). page) pages = c.joined.ensures.bytes in
     let many : length c.joined.result.now ≡ PAGE_BYTES * length pages = c.joined.ensures.len in
     let all : length pages ≡ length c.args.pages.now = search rules in
-    let stood = part_looked c.args.self.now b R.went R.same.0 R.goes.process.topology c.args.node first (c.requires.stands k) in
+    let stood = part_looked c.args.self.now b R.went R.same.0 R.goes.process.topology c.args.node first (c.requires.stands (R.goes.premise (E.goes.premise k))) in
     let out = pages_out b.topology b.world.net content c.args.node first pages stood (λ i low. R.pages i (omega (arith, low, all))) c.joined.ensures.each (omega (arith, E.room k, at, many)) in
     part_put b d _ c.args.node (first + length c.args.pages.now) (c.in_ok-put.ensures.content k) E.same.0 E.goes.process.topology
     (subst (λ n. IsPartOut b.topology b.world.net (written content n c.joined.result.now) c.args.node (first + length c.args.pages.now)) (sym at)

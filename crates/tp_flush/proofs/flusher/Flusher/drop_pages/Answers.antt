@@ -1,5 +1,5 @@
 use Rattle.std.proofs.Common.{refl, sym, subst, ap, ◌∙◌, ◌≤◌, arith}
-use Rattle.tp_flush.proofs.Lower.{State, IsFirst, Told, IsFrozenAs}
+use Rattle.tp_flush.proofs.Lower.{AreTrue, State, IsFirst, Told, IsFrozenAs}
 use Rattle.tp_flush.specs.Known.{Known}
 use Rattle.tp_flush.specs.Flushing.{AreGone, KeepsCopy, Flushing, IsOfDevice, KeepsWorld, OnlyLooked}
 use Rattle.tp_flush.proofs.Closed.{frozen_told, look_copies}
@@ -20,12 +20,12 @@ invariant_of-self g c =
       c.drop_frozen.ensures.name ∙ c.self.invariant.0,
       c.self.invariant.1,
       subst (λ (k : Known). IsFirst now k.world) (sym c.of-parts.ensures) (record { net = refl; base = refl; journal = refl }),
-      subst (λ (k : Known). KeepsWorld g.D.Disk.keeps g.J.Naming.formatted g.J.Naming.before k s p.store.place p.store.broken p.raiser) (sym c.of-parts.ensures)
-          (learn_keeps g.D.Disk.keeps g.J.Naming.formatted g.J.Naming.before p.whole.known s p.store.place p.store.broken p.raiser c.self.invariant.3 p.key.value now c.self.invariant.2 c.drop_frozen.ensures.since),
-      subst (λ (k : Known). KeepsCopy g.D.Disk.keeps k.world.net s p.store.place p.store.broken p.topology p.progress) (sym c.of-parts.ensures)
-          (look_copies g.D.Disk.keeps p.whole.known.world p.key.value now s p.store.place p.store.broken p.topology p.progress c.self.invariant.2 c.drop_frozen.ensures.since c.self.invariant.4),
-      subst (λ (k : Known). IsOfDevice g.D.Disk.keeps g.J.Naming.room k.world s p.store.place p.store.broken p.topology) (sym c.of-parts.ensures)
-          (look_device g.D.Disk.keeps g.J.Naming.room p.whole.known.world p.key.value now s p.store.place p.store.broken p.topology c.self.invariant.2 c.drop_frozen.ensures.since c.self.invariant.5),
+      subst (λ (k : Known). KeepsWorld (AreTrue (g.D.Disk.reads p.store.disk)) g.J.Naming.formatted g.J.Naming.before k s p.store.place p.store.broken p.raiser) (sym c.of-parts.ensures)
+          (learn_keeps (AreTrue (g.D.Disk.reads p.store.disk)) g.J.Naming.formatted g.J.Naming.before p.whole.known s p.store.place p.store.broken p.raiser c.self.invariant.3 p.key.value now c.self.invariant.2 c.drop_frozen.ensures.since),
+      subst (λ (k : Known). KeepsCopy (AreTrue (g.D.Disk.reads p.store.disk)) k.world.net s p.store.place p.store.broken p.topology p.progress) (sym c.of-parts.ensures)
+          (look_copies (AreTrue (g.D.Disk.reads p.store.disk)) p.whole.known.world p.key.value now s p.store.place p.store.broken p.topology p.progress c.self.invariant.2 c.drop_frozen.ensures.since c.self.invariant.4),
+      subst (λ (k : Known). IsOfDevice (AreTrue (g.D.Disk.reads p.store.disk)) g.J.Naming.room k.world s p.store.place p.store.broken p.topology) (sym c.of-parts.ensures)
+          (look_device (AreTrue (g.D.Disk.reads p.store.disk)) g.J.Naming.room p.whole.known.world p.key.value now s p.store.place p.store.broken p.topology c.self.invariant.2 c.drop_frozen.ensures.since c.self.invariant.5),
       subst (λ (k : Known). g.J.Naming.first ≤ k.world.stored) (sym c.of-parts.ensures) c.self.invariant.6,
       subst (λ (k : Known). now.numbered_from ≤ k.world.stored) (sym c.of-parts.ensures) (omega (arith, c.drop_frozen.ensures.since.numbered, c.self.invariant.7)),
       holds_since p.store.place.form p.key.value now c.drop_frozen.ensures.since c.self.invariant.8,
@@ -39,6 +39,7 @@ flushing g c k told =
     record {
       world = k.world;
       state = g.D.Disk.state p.store.disk;
+      reads = g.D.Disk.reads p.store.disk;
       size = g.D.Disk.size_of p.store.disk;
       failures = g.D.Disk.failures_of p.store.disk;
       opened = k.opened;
@@ -53,7 +54,7 @@ looked g c =
     let p = c.self.inside.parts in
     subst (λ (v : Flushing). OnlyLooked v (flushing g c c.of-parts.result.known c.drop_frozen.new.key.value)) c.self.view_is
     (subst (λ (k : Known). OnlyLooked (flushing g c p.whole.known p.key.value) (flushing g c k c.drop_frozen.new.key.value)) (sym c.of-parts.ensures)
-    (learned_looked p.whole.known.world p.key.value c.drop_frozen.new.key.value c.self.invariant.2 c.drop_frozen.ensures.since (g.D.Disk.state p.store.disk) (g.D.Disk.size_of p.store.disk) (g.D.Disk.failures_of p.store.disk) p.whole.known.opened p.store.place p.topology p.progress))
+    (learned_looked p.whole.known.world p.key.value c.drop_frozen.new.key.value c.self.invariant.2 c.drop_frozen.ensures.since (g.D.Disk.state p.store.disk) (g.D.Disk.reads p.store.disk) (g.D.Disk.size_of p.store.disk) (g.D.Disk.failures_of p.store.disk) p.whole.known.opened p.store.place p.topology p.progress))
 
 pub returns-clause-went : goal.returns-clause-went
 returns-clause-went g c =
@@ -64,7 +65,7 @@ returns-clause-went g c =
 
 pub returns-clause-goes : goal.returns-clause-goes
 returns-clause-goes g c =
-    goes_looked g.D.Disk.keeps g.J.Naming.formatted g.J.Naming.before c.args.self.now (flushing g c c.of-parts.result.known c.drop_frozen.new.key.value) c.known.ensures.disk (looked g c)
+    goes_looked g.J.Naming.formatted g.J.Naming.before c.args.self.now (flushing g c c.of-parts.result.known c.drop_frozen.new.key.value) c.known.ensures.disk (looked g c)
 
 pub returns-clause-gone : goal.returns-clause-gone
 returns-clause-gone g c = c.drop_frozen.ensures.gone

@@ -16,7 +16,7 @@ use Rattle.tp_flush.proofs.flusher.Flusher.go.Goals as goal
 
 pub returns-in_default-clause-goes : goal.returns-in_default-clause-goes
 returns-in_default-clause-goes g c =
-    goes_looked g.D.Disk.keeps g.J.Naming.formatted g.J.Naming.before c.args.self.now c.copy_under.new.self c.known.ensures.disk c.copy_under.ensures.looked
+    goes_looked g.J.Naming.formatted g.J.Naming.before c.args.self.now c.copy_under.new.self c.known.ensures.disk c.copy_under.ensures.looked
 
 pub returns-in_default-clause-ended : goal.returns-in_default-clause-ended
 returns-in_default-clause-ended g c =
@@ -27,9 +27,9 @@ returns-in_default-clause-ended g c =
 
 pub returns-in_err-append_all-clause-goes : goal.returns-in_err-append_all-clause-goes
 returns-in_err-append_all-clause-goes g c =
-    goes_then g.D.Disk.keeps g.J.Naming.formatted g.J.Naming.before c.args.self.now c.copy_under.new.self c.append_all.new.self
-    (goes_looked g.D.Disk.keeps g.J.Naming.formatted g.J.Naming.before c.args.self.now c.copy_under.new.self c.known.ensures.disk c.copy_under.ensures.looked)
-    (record { walks = c.append_all.ensures.walks; process = c.append_all.ensures.process })
+    goes_then g.J.Naming.formatted g.J.Naming.before c.args.self.now c.copy_under.new.self c.append_all.new.self
+    (goes_looked g.J.Naming.formatted g.J.Naming.before c.args.self.now c.copy_under.new.self c.known.ensures.disk c.copy_under.ensures.looked)
+    (record { premise = c.append_all.ensures.premise; walks = c.append_all.ensures.walks; process = c.append_all.ensures.process })
 
 pub returns-in_err-append_all-clause-ended : goal.returns-in_err-append_all-clause-ended
 returns-in_err-append_all-clause-ended g c =
@@ -50,17 +50,17 @@ raised_failed g c =
     (waits_then c.args.self.now c.copy_under.new.self c.append_all.new.self (looked_waits c.args.self.now c.copy_under.new.self c.requires.rests c.copy_under.ensures.looked c.copy_under.ensures.mark) S.0)
     R.looked (omega (arith, R.up, R.mark)) (omega (arith, R.reaches, R.mark))
 
-went_on_failed : (g : given.Over) (c : goal.After-drop-backlog-in_err-done g) → FlushedOn g.D.Disk.keeps g.J.Naming.formatted g.J.Naming.before c.args.self.now c.raise.new.self
+went_on_failed : (g : given.Over) (c : goal.After-drop-backlog-in_err-done g) → FlushedOn g.J.Naming.formatted g.J.Naming.before c.args.self.now c.raise.new.self
 went_on_failed g c =
-    goes_then g.D.Disk.keeps g.J.Naming.formatted g.J.Naming.before c.args.self.now c.append_all.new.self c.raise.new.self
-    (goes_then g.D.Disk.keeps g.J.Naming.formatted g.J.Naming.before c.args.self.now c.copy_under.new.self c.append_all.new.self
-    (goes_looked g.D.Disk.keeps g.J.Naming.formatted g.J.Naming.before c.args.self.now c.copy_under.new.self c.known.ensures.disk c.copy_under.ensures.looked)
-    (record { walks = c.append_all.ensures.walks; process = c.append_all.ensures.process }))
+    goes_then g.J.Naming.formatted g.J.Naming.before c.args.self.now c.append_all.new.self c.raise.new.self
+    (goes_then g.J.Naming.formatted g.J.Naming.before c.args.self.now c.copy_under.new.self c.append_all.new.self
+    (goes_looked g.J.Naming.formatted g.J.Naming.before c.args.self.now c.copy_under.new.self c.known.ensures.disk c.copy_under.ensures.looked)
+    (record { premise = c.append_all.ensures.premise; walks = c.append_all.ensures.walks; process = c.append_all.ensures.process }))
     c.raise.ensures.goes
 
 pub returns-in_err-done-clause-goes : goal.returns-in_err-done-clause-goes
 returns-in_err-done-clause-goes g c =
-    goes_then g.D.Disk.keeps g.J.Naming.formatted g.J.Naming.before c.args.self.now c.raise.new.self c.checkpoint.new.self (went_on_failed g c) c.checkpoint.ensures.goes
+    goes_then g.J.Naming.formatted g.J.Naming.before c.args.self.now c.raise.new.self c.checkpoint.new.self (went_on_failed g c) c.checkpoint.ensures.goes
 
 pub returns-in_err-done-clause-ended : goal.returns-in_err-done-clause-ended
 returns-in_err-done-clause-ended g c =
@@ -80,18 +80,18 @@ raised g c =
     (waits_then c.args.self.now c.copy_under.new.self c.append_all.new.self (looked_waits c.args.self.now c.copy_under.new.self c.requires.rests c.copy_under.ensures.looked c.copy_under.ensures.mark) S.0)
     R.looked (omega (arith, R.up, R.mark)) (omega (arith, R.reaches, R.mark))
 
-went_on : (g : given.Over) (c : goal.After-drop-backlog-2 g) → FlushedOn g.D.Disk.keeps g.J.Naming.formatted g.J.Naming.before c.args.self.now c.raise.new.self
+went_on : (g : given.Over) (c : goal.After-drop-backlog-2 g) → FlushedOn g.J.Naming.formatted g.J.Naming.before c.args.self.now c.raise.new.self
 went_on g c =
-    goes_then g.D.Disk.keeps g.J.Naming.formatted g.J.Naming.before c.args.self.now c.append_all.new.self c.raise.new.self
-    (goes_then g.D.Disk.keeps g.J.Naming.formatted g.J.Naming.before c.args.self.now c.copy_under.new.self c.append_all.new.self
-    (goes_looked g.D.Disk.keeps g.J.Naming.formatted g.J.Naming.before c.args.self.now c.copy_under.new.self c.known.ensures.disk c.copy_under.ensures.looked)
-    (record { walks = c.append_all.ensures.walks; process = c.append_all.ensures.process }))
+    goes_then g.J.Naming.formatted g.J.Naming.before c.args.self.now c.append_all.new.self c.raise.new.self
+    (goes_then g.J.Naming.formatted g.J.Naming.before c.args.self.now c.copy_under.new.self c.append_all.new.self
+    (goes_looked g.J.Naming.formatted g.J.Naming.before c.args.self.now c.copy_under.new.self c.known.ensures.disk c.copy_under.ensures.looked)
+    (record { premise = c.append_all.ensures.premise; walks = c.append_all.ensures.walks; process = c.append_all.ensures.process }))
     c.raise.ensures.goes
 
 pub returns-clause-goes : goal.returns-clause-goes
 returns-clause-goes g c =
-    goes_then g.D.Disk.keeps g.J.Naming.formatted g.J.Naming.before c.args.self.now c.checkpoint.new.self c.raise-mark.new.self
-    (goes_then g.D.Disk.keeps g.J.Naming.formatted g.J.Naming.before c.args.self.now c.raise.new.self c.checkpoint.new.self (went_on g c) c.checkpoint.ensures.goes) c.raise-mark.ensures.goes
+    goes_then g.J.Naming.formatted g.J.Naming.before c.args.self.now c.checkpoint.new.self c.raise-mark.new.self
+    (goes_then g.J.Naming.formatted g.J.Naming.before c.args.self.now c.raise.new.self c.checkpoint.new.self (went_on g c) c.checkpoint.ensures.goes) c.raise-mark.ensures.goes
 
 pub returns-clause-ended : goal.returns-clause-ended
 returns-clause-ended g c =

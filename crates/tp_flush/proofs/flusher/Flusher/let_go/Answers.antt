@@ -16,7 +16,7 @@ put_out-requires-clause-stands g c k =
     let b = c.drop_pages.new.self in
     let E = c.drop_pages.ensures in
     subst (λ (t : Topology). IsPartOut b.topology b.world.net (content_beside b.place b.state) c.args.node (get_or t.pages c.args.node 0)) (sym E.goes.process.topology)
-    (part_looked a b E.went E.same.0 E.goes.process.topology c.args.node (get_or a.topology.pages c.args.node 0) (c.requires.stands k))
+    (part_looked a b E.went E.same.0 E.goes.process.topology c.args.node (get_or a.topology.pages c.args.node 0) (c.requires.stands (E.goes.premise k)))
 
 pub put_out-requires-clause-gone : goal.put_out-requires-clause-gone
 put_out-requires-clause-gone g c =
@@ -31,4 +31,4 @@ returns-clause-out g c = c.put_out.ensures.out ∙ ap (λ (p : Progress). with_o
 
 pub returns-clause-goes : goal.returns-clause-goes
 returns-clause-goes g c =
-    goes_then g.D.Disk.keeps g.J.Naming.formatted g.J.Naming.before c.args.self.now c.drop_pages.new.self c.put_out.new.self c.drop_pages.ensures.goes c.put_out.ensures.goes
+    goes_then g.J.Naming.formatted g.J.Naming.before c.args.self.now c.drop_pages.new.self c.put_out.new.self c.drop_pages.ensures.goes c.put_out.ensures.goes

@@ -1,5 +1,5 @@
-use Rattle.std.proofs.Common.{sym, subst}
-use Rattle.tp_model.specs.Disk.{MayBe}
+use Rattle.std.proofs.Common.{sym, subst, ◌∙◌}
+use Rattle.tp_flush.proofs.Lower.{AreTrue, MayBe}
 use Rattle.tp_flush.specs.Flushing.{Flushing}
 use Rattle.tp_flush.specs.Known.{Began}
 use Rattle.tp_flush.specs.Settled.{SlipsStand}
@@ -10,9 +10,10 @@ pub returns-clause-recovers : goal.returns-clause-recovers
 returns-clause-recovers g c k began before some behind is below left may =
     let w = c.args.self.now.world in
     let same = c.settle_pass.ensures.same.0 in
-    let reached = c.known.ensures.reached k began in
+    let here = subst (λ (v : Flushing). AreTrue v.reads) (c.settle_under.ensures.same.0 ∙ same) k in
+    let reached = c.known.ensures.reached here began in
     recovers_with g.J.Naming.formatted w.journal w.mark some left
-    (now_recovers g.J.Naming.formatted w reached left (subst (λ m. MayBe m left) (sym (c.known.ensures.disk k)) may))
+    (now_recovers g.J.Naming.formatted w reached left (subst (λ m. MayBe m left) (sym (c.known.ensures.disk here)) may))
     (below_more c.args.pass.now.at w.mark some c.settle_pass.ensures.mark below)
     (
     stand_among w.journal c.args.seat.now before some behind is

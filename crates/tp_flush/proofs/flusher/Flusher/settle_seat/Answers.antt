@@ -1,5 +1,5 @@
 use Rattle.std.proofs.Common.{subst}
-use Rattle.tp_shared.specs.Told.{IsFirst, ToldSince, told_of}
+use Rattle.tp_flush.proofs.Lower.{AreTrue, IsFirst, ToldSince, told_of}
 use Rattle.tp_flush.specs.Flushing.{Flushing}
 use Rattle.tp_flush.proofs.Settling.{length-journal, slips_stand}
 use Rattle.tp_flush.proofs.flusher.Flusher.settle_seat.Goals as goal
@@ -9,4 +9,4 @@ returns-clause-stand g c k began =
     let w = c.args.self.now.world in
     slips_stand g.J.Naming.before g.J.Naming.first c.args.held.now c.self.inside.parts.key.value w c.args.seat.now
     (subst (λ (v : Flushing). IsFirst c.self.inside.parts.key.value v.world) c.self.view_is c.self.invariant.2)
-    (subst (λ stage. ToldSince c.self.inside.parts.key.value (told_of g.J.Naming.before g.J.Naming.first stage)) c.audit.ensures.same.0 c.compare.ensures.since) c.audit.ensures.journal (length-journal g.J.Naming.formatted w (c.known.ensures.reached k began)) c.audit.ensures.sound
+    (subst (λ stage. ToldSince c.self.inside.parts.key.value (told_of g.J.Naming.before g.J.Naming.first stage)) c.audit.ensures.same.0 c.compare.ensures.since) c.audit.ensures.journal (length-journal g.J.Naming.formatted w (c.known.ensures.reached (subst (λ (v : Flushing). AreTrue v.reads) c.self.view_is k) began)) c.audit.ensures.sound

@@ -25,7 +25,7 @@ pub go-done-requires : goal.go-done-requires
 go-done-requires g c = record { rests = c.is_broken.ensures ∙ ap position c.if-is_broken.false }
 
 pub returns-clause-recovers : goal.returns-clause-recovers
-returns-clause-recovers g c k began = walked_recovers g.J.Naming.formatted c.args.self.now c.go-done.new.self (c.known.ensures.reached k began) (c.go-done.ensures.goes.walks k began)
+returns-clause-recovers g c k began = walked_recovers g.J.Naming.formatted c.args.self.now c.go-done.new.self (c.known.ensures.reached (c.go-done.ensures.goes.premise k) began) (c.go-done.ensures.goes.walks k began)
 
 pub returns-clause-stops : goal.returns-clause-stops
 returns-clause-stops g c broken = never_both c.args.self.now.world.at (c.is_broken.ensures ∙ ap position c.if-is_broken.false) broken

@@ -3,4 +3,4 @@ use Rattle.tp_program.specs.Devices.{Leaves}
 use Rattle.tp_program.proofs.device_calls.DeviceCalls.left.Given as goal
 
 abbrev pub ghost-of : goal.ghost-of
-ghost-of g a = a._value.now.0.now.told ++ Leaves (g.D.Disk.state a._value.now.1.now) ∷ []
+ghost-of g a = a._value.now.0.now.told ++ Leaves (g.D.Disk.state a._value.now.1.now) (g.D.Disk.reads a._value.now.1.now) ∷ []
