@@ -95,5 +95,5 @@ pub use Rattle.tp_views.specs.Traced.{Traces, node_traced}
 pub use Rattle.tp_views.specs.Views.{HasNone, LacksShown, PrintsShown, PrintsView, view_text}
 pub use Rattle.tp_views.specs.declared.refusal.Refusal.{Refusal}
 pub use Rattle.tp_views.specs.declared.refusal.Refusal.TheVariants.{DeviceFailed, Memory, ReadFailed}
-pub use Rattle.tp_views.specs.declared.status.Seen.{Seen}
-pub use Rattle.tp_views.specs.declared.stops.Stops.{Stops}
+pub use Rattle.tp_views.specs.declared.text.status.Seen.{Seen}
+pub use Rattle.tp_views.specs.declared.trace.stops.Stops.{Stops}

@@ -5,7 +5,7 @@ use Rattle.tp_views.proofs.Lower.{NodeState, standing, stop_line, Attended}
 use Rattle.tp_views.specs.Maps.{Row}
 use Rattle.tp_views.specs.Stops.{steps_line, watch_text, watched}
 use Rattle.tp_views.specs.Traced.{Happens, Moment, PassesText, ended_text, last_line, moment_by, text_behind}
-use Rattle.tp_views.specs.declared.stops.Stops.{Stops}
+use Rattle.tp_views.specs.declared.trace.stops.Stops.{Stops}
 
 -- what is so where a call was done, by two things that are
 pub if_both : {T E : Type 0} (P Q R : T → Type 0) (r : Result T E) → ((x : T) → P x → Q x → R x) → IfOk r P → IfOk r Q → IfOk r R

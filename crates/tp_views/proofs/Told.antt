@@ -1,13 +1,11 @@
 -- Who waits for whom, said of an opened device by its cut, which is read once more.
-use Rattle.std.specs.Prelude.{◌≡◌, ◌+◌, ℕ, Bool, true, false, List, [], drop, map, refl, Option, Some, Result, Ok, Err, string_bytes}
+use Rattle.std.specs.Prelude.{◌≡◌, ◌+◌, ℕ, Bool, true, false, List, drop, map, refl, Option, Some, Result, Ok, Err, string_bytes}
 use Rattle.std.proofs.Common.{◌∙◌, sym, ap, subst}
-use Rattle.tp_views.proofs.Lower.{Global, String, Appends, area_start, content_of, Head, head_of, Network, t414, t414_ends, NodeState, Opened, area_in, base_of, chosen_area, closed_in, cut_in, front_in, opening, verdict, ◌>>=◌, after_rows, replay_from, Entry, OpenFault, network_of_cut, live_node, ReadAnswer, Cut, Unopened, Fault, ReadFailed, WireEnd, generation_of, groups_place, listing, Memory}
+use Rattle.tp_views.proofs.Lower.{Global, String, Appends, area_start, content_of, Head, head_of, Network, t414, t414_ends, NodeState, Opened, area_in, base_of, chosen_area, closed_in, cut_in, front_in, opening, verdict, ◌>>=◌, after_rows, replay_from, Entry, OpenFault, network_of_cut, live_node, ReadAnswer, Cut, Unopened, Fault, ReadFailed, generation_of, groups_place, listing, Memory}
 use Rattle.tp_views.specs.Maps.{Maps}
-use Rattle.tp_views.specs.Scene.{Seen, scene_of}
-use Rattle.tp_views.specs.declared.since.NodeSince.{NodeSince}
 use Rattle.tp_views.specs.Since.{nodes_since, number_after, opened_since}
 use Rattle.tp_views.specs.Views.{IsOpenedOf, WasPrinted, waits_of, waits_told}
-use Rattle.tp_views.specs.declared.scene.NodeSeen.{NodeSeen}
+use Rattle.tp_views.specs.declared.waits.scene.NodeSeen.{NodeSeen}
 use Rattle.tp_views.specs.declared.view.WaitsForm.{WaitsForm}
 
 -- ## The cut
@@ -92,16 +90,6 @@ since_again o head second base kept seen nodes I is =
     λ i. nodes_since (I.head_is i).topology.wires (I.seen_is i) (number_after (I.base_is i) (I.kept_is i)) (I.kept_is i) (is i)
 
 -- ## What is told
-
--- an error of a reading is that of what goes on with it
-pub told_error : {A B C D : Type 0} (seen : A → B) (shown : C → D) (x : B) (y : D) (error : Unopened) (answer : Result C Unopened) → ReadAnswer seen (Ok x) (Err error) → answer ≡ Err error → ReadAnswer shown (Ok y) answer
-told_error seen shown x y (Fault fault) answer is told = absurd (cc)
-told_error seen shown x y ReadFailed answer is told = rw told tt
-told_error seen shown x y Memory answer is told = rw told tt
-
--- a network in which processes wait since then
-pub scene_since : (scene : Seen) (wires : List (Option WireEnd)) (now : Network NodeState) (since : List NodeSince) → scene ≡ scene_of wires now [] → record scene { since = since } ≡ scene_of wires now since
-scene_since scene wires now since is = ap (λ (s : Seen). record s { since = since }) is
 
 -- a device that isn't opened
 pub told_unopened : (form : WaitsForm) (maps : Maps) (given : Result Opened OpenFault) (error : Unopened) (answer : Result (String Global) Unopened) → ReadAnswer (λ (o : Opened). o) given (Err error) → answer ≡ Err error

@@ -4,7 +4,7 @@ use Rattle.tp_views.proofs.Lower.{take-add, take-append_seam, drop-append_seam, 
 use Rattle.tp_views.specs.Front.{AppendsFront}
 use Rattle.tp_views.specs.Maps.{Row}
 use Rattle.tp_views.specs.Traced.{Passes, behind, last_text, moment, traced}
-use Rattle.tp_views.specs.declared.stops.Stops.{Stops}
+use Rattle.tp_views.specs.declared.trace.stops.Stops.{Stops}
 
 -- ## Bytes
 

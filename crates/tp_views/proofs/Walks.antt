@@ -4,8 +4,8 @@ use Rattle.std.proofs.Common.{◌∙◌, sym, ap, subst, arith}
 use Rattle.tp_views.proofs.Lower.{length-map, map-set, slice_get-map, slice_get_past, process, AllByRecursion, option_map, NodeState, steps, t414, node_step, Entry, Token, WireEnd, IsNodeOfBytes, bind_some, why_fewer, why_most, NodeContents, IsWhy, Why, live_node, AreAllThawed, Hears, stepped, took_one, Heard}
 use Rattle.tp_views.specs.EntriesTraced.{after_entry, ran}
 use Rattle.tp_views.specs.Since.{entry_since, found_after, found_with, known_since, nodes_after, nodes_with, walked}
-use Rattle.tp_views.specs.declared.scene.NodeSeen.{NodeSeen}
-use Rattle.tp_views.specs.declared.since.NodeSince.{NodeSince}
+use Rattle.tp_views.specs.declared.waits.scene.NodeSeen.{NodeSeen}
+use Rattle.tp_views.specs.declared.waits.since.NodeSince.{NodeSince}
 use Rattle.tp_views.proofs.EntriesTraced.{ran_goes, ran_none, ran_stops}
 
 -- ## A token

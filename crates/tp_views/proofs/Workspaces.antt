@@ -4,7 +4,7 @@ use Rattle.tp_views.proofs.Lower.{length-take, u32_at, NodeState, Cpu, hex_word,
 use Rattle.tp_views.specs.Maps.{Row}
 use Rattle.tp_views.specs.NodeText.{cpu_text}
 use Rattle.tp_views.specs.Stops.{memory_line, state_text, words_text, workspace_line}
-use Rattle.tp_views.specs.declared.stops.Stops.{Stops}
+use Rattle.tp_views.specs.declared.trace.stops.Stops.{Stops}
 
 -- a word more
 pub words_more : (bytes : List ℕ) (n i : ℕ) → i < n

@@ -3,9 +3,9 @@ use Rattle.std.specs.Prelude.{ℕ, zero, suc, ◌+◌, ◌*◌, ◌/◌, ◌%◌
 use Rattle.tp_views.specs.Lower.{decimal, receiver, WireEnd, Link, AtPort}
 use Rattle.tp_views.specs.Scene.{Seen}
 use Rattle.tp_views.specs.Why.{waiting_at, why}
-use Rattle.tp_views.specs.declared.scene.NodeSeen.{NodeSeen}
-use Rattle.tp_views.specs.declared.why.Reason.{Reason}
-use Rattle.tp_views.specs.declared.why.Reason.TheVariants.{UnderWay, Halted, Runs, BothSend, BothInput, Elsewhere, Full, NoInput, NoWire}
+use Rattle.tp_views.specs.declared.waits.scene.NodeSeen.{NodeSeen}
+use Rattle.tp_views.specs.declared.waits.why.Reason.{Reason}
+use Rattle.tp_views.specs.declared.waits.why.Reason.TheVariants.{UnderWay, Halted, Runs, BothSend, BothInput, Elsewhere, Full, NoInput, NoWire}
 
 -- ## Sets of nodes: bit j of a number says whether node j is in the set
 

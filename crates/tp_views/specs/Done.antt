@@ -3,8 +3,8 @@ use Rattle.std.specs.Prelude.{ℕ, ◌+◌, ◌==◌, ◌&&◌, not, Bool, true,
 use Rattle.tp_views.specs.Lower.{Entry, Token, Data, Ack, Marker, WireEnd, Opened}
 use Rattle.tp_views.specs.EntriesTraced.{steps_in, tokens_in}
 use Rattle.tp_views.specs.JournalText.{is_of}
-use Rattle.tp_views.specs.declared.done.Count.{Count}
-use Rattle.tp_views.specs.declared.done.Count.TheVariants.{Entries, Steps, BytesIn, BytesOut}
+use Rattle.tp_views.specs.declared.text.done.Count.{Count}
+use Rattle.tp_views.specs.declared.text.done.Count.TheVariants.{Entries, Steps, BytesIn, BytesOut}
 
 -- whether a token is a byte or, if `is_byte` is `false`, an acknowledge; no entry takes a Marker
 abbrev pub is_kind : Bool → Token → Bool

@@ -6,13 +6,13 @@ use Rattle.tp_views.specs.Scene.{Seen}
 use Rattle.tp_views.specs.Sums.{why_name}
 use Rattle.tp_views.specs.Waiting.{is_first, links_of}
 use Rattle.tp_views.specs.Waits.{deed_name, since_part}
-use Rattle.tp_views.specs.declared.scene.Doing.{Doing}
-use Rattle.tp_views.specs.declared.scene.Doing.TheVariants.{Halted, Runs, Rests}
-use Rattle.tp_views.specs.declared.scene.NodeSeen.{NodeSeen}
-use Rattle.tp_views.specs.declared.waiting.LinkWaits.{LinkWaits}
-use Rattle.tp_views.specs.declared.waiting.Wait.{Wait}
-use Rattle.tp_views.specs.declared.why.Reason.{Reason}
-use Rattle.tp_views.specs.declared.why.Reason.TheVariants.{UnderWay, Halted as OtherHalted, Runs as OtherRuns, BothSend, BothInput, Elsewhere, Full, NoInput, NoWire}
+use Rattle.tp_views.specs.declared.waits.scene.Doing.{Doing}
+use Rattle.tp_views.specs.declared.waits.scene.Doing.TheVariants.{Halted, Runs, Rests}
+use Rattle.tp_views.specs.declared.waits.scene.NodeSeen.{NodeSeen}
+use Rattle.tp_views.specs.declared.waits.waiting.LinkWaits.{LinkWaits}
+use Rattle.tp_views.specs.declared.waits.waiting.Wait.{Wait}
+use Rattle.tp_views.specs.declared.waits.why.Reason.{Reason}
+use Rattle.tp_views.specs.declared.waits.why.Reason.TheVariants.{UnderWay, Halted as OtherHalted, Runs as OtherRuns, BothSend, BothInput, Elsewhere, Full, NoInput, NoWire}
 
 -- ## A node and its wires
 

@@ -2,10 +2,10 @@
 use Rattle.std.specs.Prelude.{ℕ, Bool, if◌then◌else◌, List, [], ◌∷◌, ◌++◌, Option, Some, None, codes}
 use Rattle.tp_views.specs.Lower.{decimal, hex_byte, hex_word}
 use Rattle.tp_views.specs.Json.{comma, json_bool}
-use Rattle.tp_views.specs.declared.fields.Field.{Field as GivenField}
-use Rattle.tp_views.specs.declared.fields.Field.TheVariants.{Named as GivenNamed, After as GivenAfter, InJson as GivenInJson, Words as GivenWords, Item as GivenItem, Comma as GivenComma}
-use Rattle.tp_views.specs.declared.fields.Value.{Value as GivenValue}
-use Rattle.tp_views.specs.declared.fields.Value.TheVariants.{Number as GivenNumber, Large as GivenLarge, Byte as GivenByte, Word as GivenWord, Name as GivenName, Bit as GivenBit, Flag as GivenFlag, Rate as GivenRate}
+use Rattle.tp_views.specs.declared.text.fields.Field.{Field as GivenField}
+use Rattle.tp_views.specs.declared.text.fields.Field.TheVariants.{Named as GivenNamed, After as GivenAfter, InJson as GivenInJson, Words as GivenWords, Item as GivenItem, Comma as GivenComma}
+use Rattle.tp_views.specs.declared.text.fields.Value.{Value as GivenValue}
+use Rattle.tp_views.specs.declared.text.fields.Value.TheVariants.{Number as GivenNumber, Large as GivenLarge, Byte as GivenByte, Word as GivenWord, Name as GivenName, Bit as GivenBit, Flag as GivenFlag, Rate as GivenRate}
 
 -- What a field says: a number; a byte or a word of a node; a name; whether something is true, by a digit or by a word; or by how much a count grew in
 -- a second, if that is known.

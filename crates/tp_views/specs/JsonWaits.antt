@@ -10,14 +10,14 @@ use Rattle.tp_views.specs.Since.{known_since}
 use Rattle.tp_views.specs.Sums.{why_name}
 use Rattle.tp_views.specs.Waiting.{links_of, side_of}
 use Rattle.tp_views.specs.Waits.{deed_name}
-use Rattle.tp_views.specs.declared.scene.Doing.{Doing}
-use Rattle.tp_views.specs.declared.scene.Doing.TheVariants.{Halted, Runs, Rests}
-use Rattle.tp_views.specs.declared.scene.NodeSeen.{NodeSeen}
-use Rattle.tp_views.specs.declared.since.Since.{Since}
-use Rattle.tp_views.specs.declared.since.Since.TheVariants.{By, Before}
-use Rattle.tp_views.specs.declared.waiting.LinkWaits.{LinkWaits}
-use Rattle.tp_views.specs.declared.waiting.Wait.{Wait}
-use Rattle.tp_views.specs.declared.why.Reason.{Reason}
+use Rattle.tp_views.specs.declared.waits.scene.Doing.{Doing}
+use Rattle.tp_views.specs.declared.waits.scene.Doing.TheVariants.{Halted, Runs, Rests}
+use Rattle.tp_views.specs.declared.waits.scene.NodeSeen.{NodeSeen}
+use Rattle.tp_views.specs.declared.waits.since.Since.{Since}
+use Rattle.tp_views.specs.declared.waits.since.Since.TheVariants.{By, Before}
+use Rattle.tp_views.specs.declared.waits.waiting.LinkWaits.{LinkWaits}
+use Rattle.tp_views.specs.declared.waits.waiting.Wait.{Wait}
+use Rattle.tp_views.specs.declared.waits.why.Reason.{Reason}
 
 -- ## Fields
 

@@ -3,7 +3,7 @@ use Rattle.std.specs.Prelude.{ℕ, Bool, List, [], ◌∷◌, ◌++◌, Option, 
 use Rattle.tp_views.specs.Lower.{Entry, WireEnd}
 use Rattle.tp_views.specs.Done.{total}
 use Rattle.tp_views.specs.Fields.{Field, Named, After, Words, Item, Number, fields_text}
-use Rattle.tp_views.specs.declared.done.Count.TheVariants.{Entries, Steps, BytesIn, BytesOut}
+use Rattle.tp_views.specs.declared.text.done.Count.TheVariants.{Entries, Steps, BytesIn, BytesOut}
 
 -- how many entries and steps the node has made since the checkpoint, which holds `base` entries
 abbrev pub counts_fields : ℕ → ℕ → ℕ → List Field

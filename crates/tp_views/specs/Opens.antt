@@ -1,7 +1,7 @@
 -- What `recover` and `show` do.
 use Rattle.std.specs.Prelude.{◌≡◌, ℕ, Bool, List, length, Option, Ok}
 use Rattle.tp_views.specs.Lower.{Appends, Moment, Sync, done, Opened, verdict, next_of}
-use Rattle.tp_views.specs.declared.shown.Front.{Front}
+use Rattle.tp_views.specs.declared.text.shown.Front.{Front}
 use Rattle.tp_views.specs.Shown.{shown_text, next_line}
 
 -- what is said of an opened device besides its network

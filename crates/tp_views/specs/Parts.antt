@@ -1,8 +1,8 @@
 -- A text as a list of parts: words, numbers, and bytes and words in hexadecimal.
 use Rattle.std.specs.Prelude.{ℕ, List, [], ◌∷◌, ◌++◌}
 use Rattle.tp_views.specs.Lower.{decimal, hex_byte, hex_word}
-use Rattle.tp_views.specs.declared.parts.Part.{Part}
-use Rattle.tp_views.specs.declared.parts.Part.TheVariants.{Text, Number, Large, Byte, Word}
+use Rattle.tp_views.specs.declared.text.parts.Part.{Part}
+use Rattle.tp_views.specs.declared.text.parts.Part.TheVariants.{Text, Number, Large, Byte, Word}
 
 -- how a part is spelt
 abbrev pub part_text : Part → List ℕ

@@ -4,7 +4,7 @@ use Rattle.tp_views.specs.Lower.{most_neg, option_and_then, option_map, digits_v
 use Rattle.tp_views.specs.Maps.{Row, address_of, is_address}
 use Rattle.tp_views.specs.declared.refusal.Refusal.{Refusal}
 use Rattle.tp_views.specs.declared.refusal.Refusal.TheVariants.{NoPlace}
-use Rattle.tp_views.specs.declared.stops.Range.{Range}
+use Rattle.tp_views.specs.declared.trace.stops.Range.{Range}
 
 -- the address of a place: eight hexadecimal digits, or a label of the map
 abbrev pub place_in : List Row → List ℕ → Option ℕ

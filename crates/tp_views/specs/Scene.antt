@@ -1,12 +1,12 @@
 -- What of a network's nodes, lines and ports says who waits for whom.
 use Rattle.std.specs.Prelude.{Bool, true, false, not, ◌==◌, nat_le, if◌then◌else◌, List, [], ◌∷◌, map, length, Option, Some, None, slice_get}
 use Rattle.tp_views.specs.Lower.{Network, Port, NodeState, MAX_HELD, Token, Fault, WireEnd, has_nobody, listener, sender}
-use Rattle.tp_views.specs.declared.scene.Doing.{Doing}
-use Rattle.tp_views.specs.declared.scene.Doing.TheVariants.{Halted, Runs, Rests}
-use Rattle.tp_views.specs.declared.scene.NodeSeen.{NodeSeen}
-use Rattle.tp_views.specs.declared.scene.PortHeld.{PortHeld}
-use Rattle.tp_views.specs.declared.scene.Scene.{Scene}
-use Rattle.tp_views.specs.declared.since.NodeSince.{NodeSince}
+use Rattle.tp_views.specs.declared.waits.scene.Doing.{Doing}
+use Rattle.tp_views.specs.declared.waits.scene.Doing.TheVariants.{Halted, Runs, Rests}
+use Rattle.tp_views.specs.declared.waits.scene.NodeSeen.{NodeSeen}
+use Rattle.tp_views.specs.declared.waits.scene.PortHeld.{PortHeld}
+use Rattle.tp_views.specs.declared.waits.scene.Scene.{Scene}
+use Rattle.tp_views.specs.declared.waits.since.NodeSince.{NodeSince}
 
 -- what a node does
 abbrev pub doing_with : Option Fault → NodeState → Doing

@@ -2,7 +2,7 @@
 use Rattle.std.specs.Prelude.{ℕ, ◌+◌, Bool, false, true, if◌then◌else◌, List, [], ◌∷◌, ◌++◌, length, codes}
 use Rattle.tp_views.specs.Lower.{decimal, NodeState, halt_byte, Port, Network}
 use Rattle.tp_views.specs.Fields.{Field, Named, After, InJson, Words, Item, Number, fields_text}
-use Rattle.tp_views.specs.declared.shown.Front.{Front}
+use Rattle.tp_views.specs.declared.text.shown.Front.{Front}
 
 -- the line of how many nodes and ports there are, and how many bytes an area has
 abbrev pub head_line : ℕ → ℕ → ℕ → List ℕ

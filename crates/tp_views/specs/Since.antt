@@ -4,13 +4,13 @@ use Rattle.tp_views.specs.Lower.{option_and_then, process, Entry, WireEnd, NodeS
 use Rattle.tp_views.specs.EntriesTraced.{after_entry, tokens_in, took_all}
 use Rattle.tp_views.specs.Scene.{node_seen}
 use Rattle.tp_views.specs.Why.{waiting_at}
-use Rattle.tp_views.specs.declared.scene.NodeSeen.{NodeSeen}
-use Rattle.tp_views.specs.declared.since.FourSince.{FourSince}
-use Rattle.tp_views.specs.declared.since.FourStay.{FourStay}
-use Rattle.tp_views.specs.declared.since.NodeSince.{NodeSince}
-use Rattle.tp_views.specs.declared.since.Since.{Since}
-use Rattle.tp_views.specs.declared.since.Since.TheVariants.{By, Before}
-use Rattle.tp_views.specs.declared.since.Stay.{Stay}
+use Rattle.tp_views.specs.declared.waits.scene.NodeSeen.{NodeSeen}
+use Rattle.tp_views.specs.declared.waits.since.FourSince.{FourSince}
+use Rattle.tp_views.specs.declared.waits.since.FourStay.{FourStay}
+use Rattle.tp_views.specs.declared.waits.since.NodeSince.{NodeSince}
+use Rattle.tp_views.specs.declared.waits.since.Since.{Since}
+use Rattle.tp_views.specs.declared.waits.since.Since.TheVariants.{By, Before}
+use Rattle.tp_views.specs.declared.waits.since.Stay.{Stay}
 
 -- ## A wait at two moments
 

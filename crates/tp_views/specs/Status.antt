@@ -7,10 +7,10 @@ use Rattle.tp_views.specs.Fields.{Field, Named, After, Words, Item, Comma, Numbe
 use Rattle.tp_views.specs.Json.{json_items}
 use Rattle.tp_views.specs.Names.{form_name}
 use Rattle.tp_views.specs.TimeOfDay.{time_field, time_part}
-use Rattle.tp_views.specs.declared.done.Count.TheVariants.{Entries, Steps}
-use Rattle.tp_views.specs.declared.status.PortSeen.{PortSeen}
-use Rattle.tp_views.specs.declared.status.Seen.{Seen}
-use Rattle.tp_views.specs.declared.status.Since.{Since}
+use Rattle.tp_views.specs.declared.text.done.Count.TheVariants.{Entries, Steps}
+use Rattle.tp_views.specs.declared.text.status.PortSeen.{PortSeen}
+use Rattle.tp_views.specs.declared.text.status.Seen.{Seen}
+use Rattle.tp_views.specs.declared.text.status.Since.{Since}
 
 -- how many bytes a port has accepted, and how many it has put out
 abbrev pub bytes_accepted : Port → ℕ

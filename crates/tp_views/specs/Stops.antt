@@ -3,8 +3,8 @@ use Rattle.std.specs.Prelude.{◌≡◌, ℕ, zero, suc, ◌+◌, ◌/◌, ◌==
 use Rattle.tp_views.specs.Lower.{u32_at, NodeState, hex_byte, hex_word, instruction_at, memory_of, TraceLines, Every, Sending}
 use Rattle.tp_views.specs.Maps.{Row, spot_text}
 use Rattle.tp_views.specs.NodeText.{cpu_text}
-use Rattle.tp_views.specs.declared.stops.Range.{Range}
-use Rattle.tp_views.specs.declared.stops.Stops.{Stops}
+use Rattle.tp_views.specs.declared.trace.stops.Range.{Range}
+use Rattle.tp_views.specs.declared.trace.stops.Stops.{Stops}
 
 -- ## When
 

@@ -3,11 +3,11 @@ use Rattle.std.specs.Prelude.{ℕ, ◌+◌, if◌then◌else◌, List, [], ◌�
 use Rattle.tp_views.specs.Lower.{decimal, WireEnd, Link, AtPort}
 use Rattle.tp_views.specs.Scene.{Seen}
 use Rattle.tp_views.specs.Waiting.{is_told, links_of}
-use Rattle.tp_views.specs.declared.scene.NodeSeen.{NodeSeen}
-use Rattle.tp_views.specs.declared.waiting.LinkWaits.{LinkWaits}
-use Rattle.tp_views.specs.declared.waiting.Wait.{Wait}
-use Rattle.tp_views.specs.declared.why.Reason.{Reason}
-use Rattle.tp_views.specs.declared.why.Reason.TheVariants.{UnderWay, Halted, Runs, BothSend, BothInput, Elsewhere, Full, NoInput, NoWire}
+use Rattle.tp_views.specs.declared.waits.scene.NodeSeen.{NodeSeen}
+use Rattle.tp_views.specs.declared.waits.waiting.LinkWaits.{LinkWaits}
+use Rattle.tp_views.specs.declared.waits.waiting.Wait.{Wait}
+use Rattle.tp_views.specs.declared.waits.why.Reason.{Reason}
+use Rattle.tp_views.specs.declared.waits.why.Reason.TheVariants.{UnderWay, Halted, Runs, BothSend, BothInput, Elsewhere, Full, NoInput, NoWire}
 
 -- the words for why a process still waits
 abbrev pub why_name : Reason → List ℕ

@@ -6,7 +6,7 @@ use Rattle.tp_views.specs.Maps.{Row, spot_text}
 use Rattle.tp_views.specs.Stops.{is_changed, is_until, state_if, steps_line, until_text, watch_text}
 use Rattle.tp_views.specs.declared.refusal.Refusal.{Refusal}
 use Rattle.tp_views.specs.declared.refusal.Refusal.TheVariants.{DeviceFailed, Memory, Trial}
-use Rattle.tp_views.specs.declared.stops.Stops.{Stops}
+use Rattle.tp_views.specs.declared.trace.stops.Stops.{Stops}
 
 -- ## A line
 

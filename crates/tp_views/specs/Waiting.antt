@@ -4,11 +4,11 @@ use Rattle.tp_views.specs.Lower.{list_any, option_map, line_of, receiver, WireEn
 use Rattle.tp_views.specs.Scene.{Seen}
 use Rattle.tp_views.specs.Since.{since_at}
 use Rattle.tp_views.specs.Why.{waiting_at, why}
-use Rattle.tp_views.specs.declared.scene.NodeSeen.{NodeSeen}
-use Rattle.tp_views.specs.declared.waiting.LinkWaits.{LinkWaits}
-use Rattle.tp_views.specs.declared.waiting.Wait.{Wait}
-use Rattle.tp_views.specs.declared.why.Reason.{Reason}
-use Rattle.tp_views.specs.declared.why.Reason.TheVariants.{UnderWay, Halted, Runs, BothSend, BothInput, Elsewhere, Full, NoInput, NoWire}
+use Rattle.tp_views.specs.declared.waits.scene.NodeSeen.{NodeSeen}
+use Rattle.tp_views.specs.declared.waits.waiting.LinkWaits.{LinkWaits}
+use Rattle.tp_views.specs.declared.waits.waiting.Wait.{Wait}
+use Rattle.tp_views.specs.declared.waits.why.Reason.{Reason}
+use Rattle.tp_views.specs.declared.waits.why.Reason.TheVariants.{UnderWay, Halted, Runs, BothSend, BothInput, Elsewhere, Full, NoInput, NoWire}
 
 -- a process of node i that waits at an end of link k, since when, with the other end of the wire and why it still waits
 abbrev pub wait_of : Seen → Bool → ℕ → NodeSeen → ℕ → Waiter → Wait

@@ -7,13 +7,13 @@ use Rattle.tp_views.specs.Scene.{Seen}
 use Rattle.tp_views.specs.Since.{known_since}
 use Rattle.tp_views.specs.Sums.{other_part, sums_lines, why_name}
 use Rattle.tp_views.specs.Waiting.{links_of}
-use Rattle.tp_views.specs.declared.scene.Doing.{Doing}
-use Rattle.tp_views.specs.declared.scene.Doing.TheVariants.{Halted, Runs, Rests}
-use Rattle.tp_views.specs.declared.scene.NodeSeen.{NodeSeen}
-use Rattle.tp_views.specs.declared.since.Since.{Since}
-use Rattle.tp_views.specs.declared.since.Since.TheVariants.{By, Before}
-use Rattle.tp_views.specs.declared.waiting.LinkWaits.{LinkWaits}
-use Rattle.tp_views.specs.declared.waiting.Wait.{Wait}
+use Rattle.tp_views.specs.declared.waits.scene.Doing.{Doing}
+use Rattle.tp_views.specs.declared.waits.scene.Doing.TheVariants.{Halted, Runs, Rests}
+use Rattle.tp_views.specs.declared.waits.scene.NodeSeen.{NodeSeen}
+use Rattle.tp_views.specs.declared.waits.since.Since.{Since}
+use Rattle.tp_views.specs.declared.waits.since.Since.TheVariants.{By, Before}
+use Rattle.tp_views.specs.declared.waits.waiting.LinkWaits.{LinkWaits}
+use Rattle.tp_views.specs.declared.waits.waiting.Wait.{Wait}
 
 -- ## Words
 

@@ -2,10 +2,10 @@
 use Rattle.std.specs.Prelude.{ℕ, ◌+◌, ◌*◌, Bool, true, false, not, ◌&&◌, ◌||◌, if◌then◌else◌, List, Option, Some, None, is_none, get_or, slice_get}
 use Rattle.tp_views.specs.Lower.{receiver, Token, Data, Ack, Marker, WireEnd, Link, AtPort, Waiter}
 use Rattle.tp_views.specs.Scene.{Seen, is_halted, is_resting}
-use Rattle.tp_views.specs.declared.scene.NodeSeen.{NodeSeen}
-use Rattle.tp_views.specs.declared.scene.PortHeld.{PortHeld}
-use Rattle.tp_views.specs.declared.why.Reason.{Reason}
-use Rattle.tp_views.specs.declared.why.Reason.TheVariants.{UnderWay, Halted, Runs, BothSend, BothInput, Elsewhere, Full, NoInput, NoWire}
+use Rattle.tp_views.specs.declared.waits.scene.NodeSeen.{NodeSeen}
+use Rattle.tp_views.specs.declared.waits.scene.PortHeld.{PortHeld}
+use Rattle.tp_views.specs.declared.waits.why.Reason.{Reason}
+use Rattle.tp_views.specs.declared.waits.why.Reason.TheVariants.{UnderWay, Halted, Runs, BothSend, BothInput, Elsewhere, Full, NoInput, NoWire}
 
 -- ## Ends, lines and ports
 

@@ -8,11 +8,11 @@ ghost use Rattle.tp_views.specs.Front.{AppendsFront};
 
 use crate::areas::default_area;
 use crate::commands::{put, refuse};
-use crate::fields::Field::{After, Comma, Named, Words};
-use crate::fields::Value::{Name, Number};
-use crate::fields::push_fields;
-use crate::formats::{form_name, version_number};
 use crate::refusal::Refusal;
+use crate::text::fields::Field::{After, Comma, Named, Words};
+use crate::text::fields::Value::{Name, Number};
+use crate::text::fields::push_fields;
+use crate::text::formats::{form_name, version_number};
 use std::alloc::{AllocError, Global};
 use std::io::Write;
 use tp_area::{FormatFault, area_for, format, version_for};

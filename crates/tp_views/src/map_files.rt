@@ -1,6 +1,6 @@
 //! The maps of a device's nodes, as files of a folder, and what is wrong with them.
 
-use crate::looking::{is_regular, read_again};
+use crate::explanations::looking::{is_regular, read_again};
 use crate::maps::{MapFault, read_map};
 use std::alloc::{AllocError, Global};
 use std::fmt::Write;

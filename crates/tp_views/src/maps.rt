@@ -5,8 +5,8 @@ ghost use Rattle.std.specs.Prelude.{◌≡◌, ◌++◌, ◌<◌, ◌≤◌, ◌
 ghost use Rattle.tp_views.specs.Lower.{list_all, slice_split, option_map, digits_value};
 ghost use Rattle.tp_views.specs.Maps.{IsMapFault, address_of, after_line, counts, has_line, is_address, is_hex_digit, is_labelled, is_name, is_nearer, is_of_number, is_place, is_plain, is_text, label_in, label_part, least, line_row, nearest, parts_behind, read_map, row_if, row_seen, rows_seen, spot_text};
 
-use crate::parts::Part::{Number, Text};
-use crate::parts::push_parts;
+use crate::text::parts::Part::{Number, Text};
+use crate::text::parts::push_parts;
 use std::alloc::{AllocError, Global};
 
 /// A line of a map: an address, the label there if the line is a label's, and the source's file and line, such as `send.asm:12`.

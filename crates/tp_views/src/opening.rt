@@ -8,8 +8,8 @@ ghost use Rattle.tp_views.specs.Opens.{IsUnwritten, Prints, front_said, recovere
 use crate::by_workers::open_steady_by;
 use crate::commands::{put, refuse};
 use crate::refusal::Refusal;
-use crate::shown::{Front, next_line, shown_text};
 use crate::steady::{Tried, open_steady};
+use crate::text::shown::{Front, next_line, shown_text};
 use std::alloc::{AllocError, Global};
 use std::io::Write;
 use std::thread::Threads;

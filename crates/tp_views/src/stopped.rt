@@ -1,7 +1,7 @@
 //! Which nodes have halted. It is said after a run or a trial.
 
 use crate::commands::TRY_QUANTUM;
-use crate::looking::open_to_read;
+use crate::explanations::looking::open_to_read;
 use std::alloc::Global;
 use std::fs::{self, Files, OpenFile};
 use std::io::Write;

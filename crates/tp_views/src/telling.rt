@@ -9,9 +9,9 @@ ghost use Rattle.tp_views.specs.Status.{IsSeen, look_text};
 
 use crate::commands::{put, refuse};
 use crate::refusal::Refusal;
-use crate::status::{Seen, seen_of};
-use crate::status_text::look_text;
 use crate::steady::{Tried, open_steady};
+use crate::text::status::{Seen, seen_of};
+use crate::text::status_text::look_text;
 use std::alloc::Global;
 use std::io::Write;
 use tp_disk::Disk;

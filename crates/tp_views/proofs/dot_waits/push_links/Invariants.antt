@@ -1,8 +1,0 @@
-use Rattle.std.proofs.Common.{◌≡◌, ◌++◌, string_bytes, drop}
-use Rattle.tp_views.specs.DotWaits.{edges_of}
-use Rattle.tp_views.specs.Maps.{rows_seen}
-use Rattle.tp_views.proofs.dot_waits.push_links.Given as goal
-
-abbrev pub invariant-loop-link : goal.invariant-loop-link
-invariant-loop-link l =
-    string_bytes l.text ++ edges_of (rows_seen l.rows) (drop l.link-index l.links) ≡ string_bytes l.fn.text ++ edges_of (rows_seen l.rows) l.links

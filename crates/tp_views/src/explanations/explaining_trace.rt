@@ -1,0 +1,129 @@
+//! What `--explain` says of a trace of an image that was refused.
+
+use crate::explanations::image_rules::broken_rule;
+use crate::explanations::looking::{push_rest, read_again};
+use crate::explanations::network_files::push_image_rule;
+use crate::map_files::push_map_file;
+use crate::maps::{MapRow, read_map};
+use crate::trace::placing::stops_at;
+use std::alloc::{AllocError, Global};
+use std::fmt::Write;
+use std::fs::Files;
+use tp_words::{ImageTrace, Shown, TraceLines};
+
+/// Says why the image of a node that is traced isn't read, or which rule it breaks: whether anything was said. Its links may be at work.
+fn push_image<R: Files + AllocGlobal>(
+    rt: &R,
+    text: &mut String,
+    path: &str,
+) -> Result<bool, AllocError> {
+    match read_again(rt, text, path)? {
+        Some(image) => match broken_rule(rt.alloc(), image.as_slice(), None, false)? {
+            Some(rule) => push_image_rule(text, path, rule),
+            None => Ok(false),
+        },
+        None => Ok(true),
+    }
+}
+
+/// Says of the first file that can't be read whose bytes come in at a link why: whether there is one.
+fn push_inputs<R: Files + AllocGlobal>(
+    rt: &R,
+    text: &mut String,
+    trace: &ImageTrace,
+) -> Result<bool, AllocError> {
+    for file in trace.inputs.iter() {
+        if read_again(rt, text, file.path.as_str())?.is_none() {
+            return Ok(true);
+        }
+    }
+    Ok(false)
+}
+
+/// Says that a place names no address, if one is asked for that names none: whether one is.
+fn push_place(
+    text: &mut String,
+    rows: &[MapRow<'_>],
+    place: &Option<String>,
+) -> Result<bool, AllocError> {
+    let Some(place) = place else {
+        return Ok(false);
+    };
+    if stops_at(TraceLines::Every, rows, Some(place.as_str()), None, 1).is_ok() {
+        return Ok(false);
+    }
+    let shown = Shown::all(place.as_str());
+    write!(
+        text,
+        "  {shown}: it is neither an address, eight digits with capital letters as 80000100, nor a label of a map\n  Name the map by --map, and look into it: tools/assemble --map writes it, with its labels in its second column.\n"
+    )?;
+    Ok(true)
+}
+
+/// Says that bytes below memory are to be watched, if they are: whether they are.
+fn push_below(
+    text: &mut String,
+    rows: &[MapRow<'_>],
+    watch: &Option<String>,
+) -> Result<bool, AllocError> {
+    let Some(place) = watch else {
+        return Ok(false);
+    };
+    if stops_at(TraceLines::Every, rows, None, Some(place.as_str()), 1).is_ok() {
+        return Ok(false);
+    }
+    let shown = Shown::all(place.as_str());
+    write!(
+        text,
+        "  {shown}: it is below 80000000, the first address of memory\n  Watch bytes from there on.\n"
+    )?;
+    Ok(true)
+}
+
+/// Says which place names no address, or none that can be watched: whether one does.
+fn push_places(
+    alloc: Global,
+    text: &mut String,
+    map: &[u8],
+    trace: &ImageTrace,
+) -> Result<bool, AllocError> {
+    let Ok(rows) = read_map(alloc, map) else {
+        return Ok(false);
+    };
+    let rows = rows.as_slice();
+    Ok(
+        push_place(text, rows, &trace.until)?
+            || push_place(text, rows, &trace.watch)?
+            || push_below(text, rows, &trace.watch)?,
+    )
+}
+
+/// Says what is wrong with the map of a trace, if it has one, or with its places: whether anything is.
+fn push_map<R: Files + AllocGlobal>(
+    rt: &R,
+    text: &mut String,
+    trace: &ImageTrace,
+) -> Result<bool, AllocError> {
+    let Some(path) = &trace.map else {
+        return push_places(rt.alloc(), text, &[], trace);
+    };
+    if push_map_file(rt, text, path.as_str())? {
+        return Ok(true);
+    }
+    match read_again(rt, text, path.as_str())? {
+        Some(map) => push_places(rt.alloc(), text, map.as_slice(), trace),
+        None => Ok(true),
+    }
+}
+
+/// Says why an image wasn't traced.
+pub(crate) fn push_trace<R: Files + AllocGlobal>(
+    rt: &R,
+    text: &mut String,
+    trace: &ImageTrace,
+) -> Result<(), AllocError> {
+    let is_said = push_image(rt, text, trace.image.as_str())?
+        || push_map(rt, text, trace)?
+        || push_inputs(rt, text, trace)?;
+    if is_said { Ok(()) } else { push_rest(text) }
+}
