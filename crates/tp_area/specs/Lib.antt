@@ -13,4 +13,5 @@ pub mod Pieces
 pub mod Places
 pub mod Ports
 pub mod Puts
+pub mod Rights
 pub mod Tails

@@ -8,7 +8,7 @@ pub use Rattle.tp_model.specs.CopySpelt.{CopySpelt}
 pub use Rattle.tp_model.specs.CutImage.{base_number, is_line_of, is_port_of, line_bytes, line_with, or_damaged, port_at, port_bytes, port_with, tokens_of}
 pub use Rattle.tp_model.specs.Device.{area_start, areas_end, content_of, fits_device, gate_of, generation_of, is_open}
 pub use Rattle.tp_model.specs.DeviceAreas.{device_areas, numbered, other_content}
-pub use Rattle.tp_model.specs.Disk.{IsWithin, MayBe, Moment, SameOutside, Sync, Write, written}
+pub use Rattle.tp_model.specs.Disk.{IsWithin, MayBe, Moment, SameOutside, Sync, Write, done, written}
 pub use Rattle.tp_model.specs.DiskHistory.{Counts, IsSynced, LeavesOnly, State}
 pub use Rattle.tp_model.specs.EntryBytes.{AreOf, IsSpelt}
 pub use Rattle.tp_model.specs.Format.{IsFormatted, start_of}

@@ -4,10 +4,12 @@ ghost use Rattle.std.specs.Prelude.{◌≡◌, ◌⊎◌, ◌+◌, ◌*◌, ◌^
 ghost use Rattle.tp_area.specs.Lower.{LINE_BYTES, PORT_BYTES, zeros, areas_end, fits_device, SameOutside, Counts, LeavesOnly, start_of, areas_of_length, version_for, cut_length, images_length, line_count};
 ghost use Rattle.tp_area.specs.Formatting.{FormatAnswer, Formatted, IsOldOrNew, Wrote, area_front, failed_calls, is_early, with_areas};
 ghost use Rattle.tp_area.specs.Puts.{ButFor, Puts};
+ghost use Rattle.tp_area.specs.Rights.{Formats};
 
 use crate::fault::FormatFault;
 use crate::images::check_images;
 use crate::puts::{put_images, put_piece, put_zeros};
+use crate::rights::may_format;
 use crate::{
     CutFront, FIELDS_BYTES, area_start, areas_of_length, cut_length, fits, head_bytes,
     images_length, put_fields, records_length, version_for,
@@ -71,6 +73,7 @@ fn put_first_area<D: Disk>(
     requires cut { lengths.cut < 2 ^ 32 }
     requires inside { at + FRONT_BYTES + lengths.images + lengths.rest ≤ D.size_of disk.old }
     requires fits { D.size_of disk.old < 2 ^ 64 }
+    requires allowed { D.writable ≡ true }
     ensures counts { Counts (is_ok result) (D.size_of disk.old) (D.size_of disk.new) (D.failures_of disk.old) (D.failures_of disk.new) }
     ensures unread { D.reads disk.new ≡ D.reads disk.old }
     ensures put { OnOk result (Puts at ((area_front lengths.cut ++ flat_map (λ image. image.items) images.now) ++ zeros lengths.rest)
@@ -99,6 +102,7 @@ fn write_all<D: Disk>(
     requires room { areas_end areas ≤ D.size_of disk.old }
     requires head { length head.now ≡ areas.first }
     requires fits { D.size_of disk.old < 2 ^ 64 }
+    requires allowed { D.writable ≡ true }
     ensures counts { Counts (is_ok result) (D.size_of disk.old) (D.size_of disk.new) (D.failures_of disk.old) (D.failures_of disk.new) }
     ensures unread { D.reads disk.new ≡ D.reads disk.old }
     ensures wrote { OnOk result (Wrote ((area_front lengths.cut ++ flat_map (λ image. image.items) images.now) ++ zeros lengths.rest)
@@ -124,6 +128,7 @@ pub fn format<D: Disk>(
     images: &[Vec<u8>],
     area: u64,
 ) -> Result<(), FormatFault>
+    requires { Formats → D.writable ≡ true }
     ensures answer { FormatAnswer (start_of topology.now (map (λ image. image.items) images.now)) (fits_device (D.size_of disk.old) topology.now (areas_of_length (version_for topology.now) area)) result }
     ensures early { is_early result ≡ true → disk.new ≡ disk.old }
     ensures failures { D.failures_of disk.new ≡ D.failures_of disk.old + failed_calls result }
@@ -140,6 +145,7 @@ pub fn format<D: Disk>(
         return Err(FormatFault::AreaFull);
     }
     let head = head_bytes(version, topology, areas);
+    may_format::<D>();
     let Ok(()) = write_all(disk, head.as_slice(), areas, images, lengths) else {
         return Err(FormatFault::DeviceFailed);
     };

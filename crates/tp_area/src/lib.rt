@@ -2,6 +2,7 @@
 #![tactic(auto)]
 
 mod area;
+mod copy;
 mod end;
 mod fault;
 mod form;
@@ -21,6 +22,7 @@ mod other;
 mod place;
 mod port;
 mod puts;
+mod rights;
 mod room;
 mod store;
 mod switch;
@@ -30,6 +32,7 @@ mod wires;
 mod written;
 
 pub use area::{area_for, fits};
+pub use copy::put_copied;
 pub use fault::{FormatFault, StoreFault};
 pub use formatting::format;
 pub use front::{

@@ -1,6 +1,6 @@
 //! Counting the failures of a device.
 
-ghost use Rattle.std.specs.Prelude.{◌≡◌};
+ghost use Rattle.std.specs.Prelude.{◌≡◌, true};
 
 use crate::disk::{DeviceFailed, Disk};
 use crate::failures::Failures;
@@ -52,6 +52,8 @@ impl<F: RawDisk> Disk for Counted<F> {
     ghost state = { λ d. F.state d.raw };
 
     ghost reads = { λ d. F.reads d.raw };
+
+    ghost writable = { true };
 
     fn size(&self) -> u64 {
         self.raw.size()

@@ -1,6 +1,6 @@
 //! What the store sees of a device.
 
-ghost use Rattle.std.specs.Prelude.{◌≡◌, ℕ, ◌+◌, ◌-◌, ◌^◌, ◌≤◌, List, ◌++◌, min, length, is_ok, OnOk, OnErr};
+ghost use Rattle.std.specs.Prelude.{◌≡◌, ℕ, ◌+◌, ◌-◌, ◌^◌, ◌≤◌, Bool, true, List, ◌++◌, min, length, is_ok, OnOk, OnErr};
 ghost use Rattle.tp_disk.specs.Lower.{Write, Sync, Read, done, State, MomentPassed, Fails, Counts};
 ghost use Rattle.tp_disk.specs.Reads.{Reading, answered};
 
@@ -28,6 +28,10 @@ pub trait Disk {
     /// Which of its reads so far were answered, each beside what the state held then. `AreTrue` of them is the premise on this device.
     ghost reads: { Self → List Reading };
 
+    /// Whether devices of this type may be written. Code for any device doesn't know it, so it writes only by a right that its caller gave it:
+    /// a function that never returns owes no `ensures`, and this is asked before each write.
+    ghost writable: { Bool };
+
     /// Counts its bytes.
     fn size(&self) -> u64
         ensures { result ≡ size_of self.now };
@@ -47,7 +51,8 @@ pub trait Disk {
 
     /// Writes over the bytes from `at` on. Until a sync succeeds, a crash may leave any bytes in the range, also after `DeviceFailed`.
     fn write_at(&mut self, at: u64, bytes: &[u8]) -> Result<(), DeviceFailed>
-        requires { at + length bytes.now ≤ size_of self.old }
+        requires inside { at + length bytes.now ≤ size_of self.old }
+        requires allowed { writable ≡ true }
         ensures counts { Counts (is_ok result) (size_of self.old) (size_of self.new) (failures_of self.old) (failures_of self.new) }
         ensures unread { reads self.new ≡ reads self.old }
         ensures goes { MomentPassed (state self.old) (state self.new) }
@@ -75,6 +80,8 @@ impl<D: Disk> Disk for &mut D {
     ghost state = { λ d. D.state d.now };
 
     ghost reads = { λ d. D.reads d.now };
+
+    ghost writable = { D.writable };
 
     fn size(&self) -> u64 {
         (**self).size()

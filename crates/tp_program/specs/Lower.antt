@@ -26,6 +26,7 @@ pub use Rattle.tp_disk.specs.FileState.{begins}
 pub use Rattle.tp_disk.specs.History.{Medium}
 pub use Rattle.tp_disk.specs.Reads.{AreTrue, Reading, WereTrue}
 pub use Rattle.tp_area.specs.Formatting.{Formatted, IsOldOrNew}
+pub use Rattle.tp_area.specs.Rights.{Copies, Formats, Steps}
 pub use Rattle.tp_recover.specs.Copies.{AskedLast, CopyAnswer, HasStayed, IsCopy, area_kept}
 pub use Rattle.tp_recover.specs.Reading.{LeavesNothingNew}
 pub use Rattle.tp_recover.specs.declared.asked.AreaAsked.{AreaAsked}

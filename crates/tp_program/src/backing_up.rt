@@ -1,7 +1,7 @@
 //! `tpnet backup`, over any device and any copy.
 
-ghost use Rattle.std.specs.Prelude.{◌≡◌, IfErr, IfNone, IfOk, IfSome, IsErr, IsSome, IsSomeAnd, string_bytes};
-ghost use Rattle.tp_program.specs.Lower.{AreTrue, WereTrue, AskedLast, CopyAnswer, HasStayed, area_kept, verdict, LeavesNothingNew};
+ghost use Rattle.std.specs.Prelude.{◌≡◌, true, IfErr, IfNone, IfOk, IfSome, IsErr, IsSome, IsSomeAnd, string_bytes};
+ghost use Rattle.tp_program.specs.Lower.{AreTrue, WereTrue, AskedLast, CopyAnswer, HasStayed, area_kept, verdict, LeavesNothingNew, Copies};
 ghost use Rattle.tp_program.specs.Backups.{FoundAsOpened, IsBackup, copied_line, copy_refusal};
 
 use std::alloc::{AllocError, Global};
@@ -40,6 +40,7 @@ fn copy_or_refuse<D: Disk, K: Disk, E: Write>(
     opened: Opened,
     err: &mut E,
 ) -> Result<Option<Copied>, u8>
+    requires { Copies → K.writable ≡ true }
     ensures status { IfErr result (λ status. status ≡ 1) }
     ensures premise { WereTrue (D.reads source.old) (D.reads source.new) }
     ensures kept { IfOk result (λ found. (D.state source.new).now ≡ (D.state source.old).now) }
@@ -63,6 +64,7 @@ fn copy_once<D: Disk, K: Disk, E: Write>(
     copy: &mut K,
     err: &mut E,
 ) -> Result<Option<Copied>, u8>
+    requires { Copies → K.writable ≡ true }
     ensures status { IfErr result (λ status. status ≡ 1) }
     ensures premise { WereTrue (D.reads source.old) (D.reads source.new) }
     ensures kept { AreTrue (D.reads source.new) → IfOk result (λ found. (D.state source.new).now.bytes ≡ (D.state source.old).now.bytes) }
@@ -95,6 +97,7 @@ pub fn backup_on<D: Disk, K: Disk, E: Write>(
     copy: &mut K,
     err: &mut E,
 ) -> Result<Copied, u8>
+    requires { Copies → K.writable ≡ true }
     ensures status { IfErr result (λ status. status ≡ 1) }
     ensures premise { WereTrue (D.reads source.old) (D.reads source.new) }
     ensures leaves { LeavesNothingNew (D.state source.old) (D.state source.new) }

@@ -1,7 +1,7 @@
 //! `tpnet compact`, over any device.
 
-ghost use Rattle.std.specs.Prelude.{◌≡◌, ◌≤◌, IfErr, IfOk, IsErr, Ok, OnOk, string_bytes};
-ghost use Rattle.tp_program.specs.Lower.{AreTrue, Appends, verdict, LeavesNothingNew, History};
+ghost use Rattle.std.specs.Prelude.{◌≡◌, ◌≤◌, true, IfErr, IfOk, IsErr, Ok, OnOk, string_bytes};
+ghost use Rattle.tp_program.specs.Lower.{AreTrue, Appends, verdict, LeavesNothingNew, History, Steps};
 ghost use Rattle.tp_program.specs.Compacting.{CompactedAs, PrintsDone, compaction_line};
 
 use std::alloc::Global;
@@ -74,6 +74,7 @@ pub fn compact_on<D: Disk, O: Write, E: Write, R: Wait>(
     err: &mut E,
 ) -> (D, u8)
     ghost history: { History }
+    requires { Steps → D.writable ≡ true }
     ensures status { result.1 ≤ 1 }
     ensures size { D.size_of result.0 ≡ D.size_of disk }
     ensures done { CompactedAs history (D.state disk) (D.state result.0) (D.reads result.0) (O.contents out.old) (O.contents out.new) result.1 }

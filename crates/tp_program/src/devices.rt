@@ -1,7 +1,7 @@
 //! The devices and files of commands: they are held, made, opened, read, copied and given back.
 
-ghost use Rattle.std.specs.Prelude.{◌≡◌, ℕ, true, false, List, [], ◌∷◌, ◌++◌, Option, Some, None, is_ok, IfOk, IsErrAnd, OnOk, OnErr};
-ghost use Rattle.tp_program.specs.Lower.{error_kind, option_map, begins, Medium};
+ghost use Rattle.std.specs.Prelude.{◌≡◌, ℕ, refl, true, false, List, [], ◌∷◌, ◌++◌, Option, Some, None, is_ok, IfOk, IsErrAnd, OnOk, OnErr};
+ghost use Rattle.tp_program.specs.Lower.{error_kind, option_map, begins, Medium, Copies, Formats, Steps};
 ghost use Rattle.tp_program.specs.Devices.{DeviceCall, Holds, Makes, Opens, Closes, Reads, Looks, Begins, Leaves, Links, Requests, path_held};
 ghost use Rattle.tp_program.specs.Media.{medium_at};
 ghost use Rattle.tp_program.specs.Stops.{WasHeldElsewhere, request_path};
@@ -175,6 +175,15 @@ pub trait Devices {
         ensures noted { uses self.new ≡ uses self.old ++ Requests path.now (is_ok result) ∷ [] }
         ensures uncalled { calls self.new ≡ calls self.old }
         ensures kept { held self.new ≡ held self.old };
+
+    /// A store may step on a device that is opened. Nothing else may write it.
+    ghost may_step: { Steps → Self.Device.writable ≡ true };
+
+    /// A device that is begun may be formatted.
+    ghost may_format: { Formats → Self.New.writable ≡ true };
+
+    /// A device that is begun may become a copy.
+    ghost may_copy: { Copies → Self.New.writable ≡ true };
 }
 
 /// Devices in files of the system. What each device that is opened holds, as far as no call tells it, is what `new` was told of it.
@@ -397,6 +406,12 @@ impl<
         self.used = self.used.requested(path, made.is_ok());
         made
     }
+
+    ghost may_step = { λ _. refl };
+
+    ghost may_format = { λ _. refl };
+
+    ghost may_copy = { λ _. refl };
 }
 
 /// Opens the file of a device to be written. It stays as it is.

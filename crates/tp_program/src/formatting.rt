@@ -1,7 +1,7 @@
 //! `tpnet format`, over any device.
 
 ghost use Rattle.std.specs.Prelude.{◌≡◌, ◌⊎◌, ◌≤◌, true, false, None, map, IsErr, OnOk};
-ghost use Rattle.tp_program.specs.Lower.{Appends, fits_device, LeavesOnly, start_of, areas_of_length, version_for, is_topology, Formatted, IsOldOrNew, wanted_area, AppendsFront};
+ghost use Rattle.tp_program.specs.Lower.{Appends, fits_device, LeavesOnly, start_of, areas_of_length, version_for, is_topology, Formatted, IsOldOrNew, wanted_area, AppendsFront, Formats};
 ghost use Rattle.tp_program.specs.Formats.{formatted_text};
 
 use std::alloc::Global;
@@ -21,6 +21,7 @@ fn make<D: Disk, O: Write>(
     out: &mut O,
 ) -> Result<(), Refusal>
     requires valid { is_topology topology.now ≡ true }
+    requires allowed { Formats → D.writable ≡ true }
     ensures formatted { OnOk result (Formatted topology.now (map (λ image. image.items) images.now) (areas_of_length (version_for topology.now) (wanted_area topology.now area)) (D.state disk.old) (D.state disk.new)) }
     ensures fits { OnOk result (fits_device (D.size_of disk.old) topology.now (areas_of_length (version_for topology.now) (wanted_area topology.now area)) ≡ true) }
     ensures printed { OnOk result (Appends (O.contents out.old) (O.contents out.new) formatted_text) }
@@ -49,6 +50,7 @@ pub fn format_on<D: Disk, O: Write, E: Write>(
     err: &mut E,
 ) -> u8
     requires valid { is_topology topology.now ≡ true }
+    requires allowed { Formats → D.writable ≡ true }
     ensures status { result ≤ 1 }
     ensures formatted { result ≡ 0 → Formatted topology.now (map (λ image. image.items) images.now) (areas_of_length (version_for topology.now) (wanted_area topology.now area)) (D.state disk.old) (D.state disk.new) }
     ensures fits { result ≡ 0 → fits_device (D.size_of disk.old) topology.now (areas_of_length (version_for topology.now) (wanted_area topology.now area)) ≡ true }

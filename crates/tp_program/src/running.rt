@@ -1,7 +1,7 @@
 //! `tpnet run`, over any device.
 
-ghost use Rattle.std.specs.Prelude.{◌≡◌, ◌≤◌, ◌<◌, IsErr};
-ghost use Rattle.tp_program.specs.Lower.{AreTrue, verdict, MAX_STEPS, LeavesNothingNew, History, MAX_WORKERS, IsRun};
+ghost use Rattle.std.specs.Prelude.{◌≡◌, ◌≤◌, ◌<◌, true, IsErr};
+ghost use Rattle.tp_program.specs.Lower.{AreTrue, verdict, MAX_STEPS, LeavesNothingNew, History, MAX_WORKERS, IsRun, Steps};
 ghost use Rattle.tp_program.specs.Running.{RanAs, job_of, status_of};
 
 use std::alloc::Global;
@@ -87,7 +87,8 @@ pub fn run_on<D: Disk + Drop + Send, O: Outlet, E: Write, R: Threads + Wait + Sy
     err: &mut E,
 ) -> (D, u8)
     ghost history: { History }
-    requires { IsRun asked.now }
+    requires range { IsRun asked.now }
+    requires allowed { Steps → D.writable ≡ true }
     ensures status { result.1 ≤ 2 }
     ensures size { D.size_of result.0 ≡ D.size_of disk }
     ensures ran { RanAs history (job_of asked.now) input.now (D.state disk) (D.state result.0) (D.reads result.0) (O.value out.old) (O.value out.new) result.1 }

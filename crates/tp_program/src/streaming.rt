@@ -1,7 +1,7 @@
 //! `tpnet run --stream`, over any device.
 
-ghost use Rattle.std.specs.Prelude.{◌≡◌, ◌≤◌, Err, IfErr, IfOk, IsErr, OnOk, map, string_bytes};
-ghost use Rattle.tp_program.specs.Lower.{AreTrue, Began, verdict, MAX_STEPS, LeavesNothingNew, Unopened, History, HaveOwnPaths, IsAsked, StaysUnstreamed, StreamedInto, IsStreamRun, given_input, inputs_named, named_input, outputs_named, path_from};
+ghost use Rattle.std.specs.Prelude.{◌≡◌, ◌≤◌, true, Err, IfErr, IfOk, IsErr, OnOk, map, string_bytes};
+ghost use Rattle.tp_program.specs.Lower.{AreTrue, Began, verdict, MAX_STEPS, LeavesNothingNew, Unopened, History, HaveOwnPaths, IsAsked, StaysUnstreamed, StreamedInto, IsStreamRun, given_input, inputs_named, named_input, outputs_named, path_from, Steps};
 ghost use Rattle.tp_program.specs.Streaming.{IsOfEnds, IsUnopened, FindsNothingNew, OnOpened, StreamedOn, end_status, ending_status, fault_status, seconds_of, shown_on, spread_over, stream_status, task_of};
 
 use crate::request_file::RequestFile;
@@ -230,7 +230,8 @@ fn stream_opened<
     onlooker: &mut W,
 ) -> (D, Result<Ended, StreamFault>)
     ghost history: { History }
-    requires { IsStreamRun asked.now }
+    requires range { IsStreamRun asked.now }
+    requires allowed { Steps → D.writable ≡ true }
     ensures size { D.size_of result.0 ≡ D.size_of disk }
     ensures streamed { AreTrue (D.reads result.0) → Began history.formatted history.before (D.state disk).now.bytes
         → StreamedInto history.formatted (map (λ i. given_input i.port (I.input i.source)) streams.old.inputs.items) result.1 streams.old.outputs.items streams.new.outputs.items (D.state disk) (D.state result.0) }
@@ -312,7 +313,8 @@ fn stream_files<
     onlooker: &mut W,
 ) -> (D, Result<Ended, FilesFault>)
     ghost history: { History }
-    requires { IsStreamRun asked.now }
+    requires range { IsStreamRun asked.now }
+    requires allowed { Steps → D.writable ≡ true }
     ensures size { D.size_of result.0 ≡ D.size_of disk }
     ensures streamed { AreTrue (D.reads result.0) → Began history.formatted history.before (D.state disk).now.bytes
         → StreamedOn history.formatted asked.now.ends result.1 (D.state disk) (D.state result.0) }
@@ -356,7 +358,8 @@ pub fn stream_on<
     onlooker: &mut W,
 ) -> (D, Streamed)
     ghost history: { History }
-    requires { IsStreamRun asked.now }
+    requires range { IsStreamRun asked.now }
+    requires allowed { Steps → D.writable ≡ true }
     ensures status { result.1.status ≡ stream_status result.1.done }
     ensures few { result.1.status ≤ 3 }
     ensures size { D.size_of result.0 ≡ D.size_of disk }

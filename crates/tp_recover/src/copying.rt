@@ -17,8 +17,8 @@
 //! so a checkpoint was written into the other one since. Then the gate and generation of the other one aren't found in the end as opening
 //! read them.
 
-ghost use Rattle.std.specs.Prelude.{◌≡◌, ◌+◌, ◌^◌, ◌≤◌, ◌<◌, ◌↔◌, IfOk, IfNone, IfSome, IsSome, OnOk};
-ghost use Rattle.tp_recover.specs.Lower.{AreTrue, WereTrue, area_start, areas_end, AREA_HEAD_BYTES};
+ghost use Rattle.std.specs.Prelude.{◌≡◌, ◌+◌, ◌^◌, ◌≤◌, ◌<◌, ◌↔◌, true, IfOk, IfNone, IfSome, IsSome, OnOk};
+ghost use Rattle.tp_recover.specs.Lower.{AreTrue, WereTrue, Copies, area_start, areas_end, AREA_HEAD_BYTES};
 ghost use Rattle.tp_recover.specs.Copies.{AskedLast, CopyAnswer, HasStayed, IsFinished, OpensAs, closed_copy, area_kept};
 ghost use Rattle.tp_recover.specs.Reading.{LeavesNothingNew};
 
@@ -46,6 +46,7 @@ fn make_closed<D: Disk, K: Disk>(source: &mut D, copy: &mut K, kept: Kept) -> Re
     requires counted { D.size_of source.old < 2 ^ 64 }
     requires behind { area_start kept.areas kept.second + AREA_HEAD_BYTES ≤ kept.end }
     requires inside { kept.end < area_start kept.areas kept.second + kept.areas.length }
+    requires allowed { Copies → K.writable ≡ true }
     ensures source_size { D.size_of source.new ≡ D.size_of source.old }
     ensures copy_size { K.size_of copy.new ≡ K.size_of copy.old }
     ensures premise { WereTrue (D.reads source.old) (D.reads source.new) }
@@ -98,6 +99,7 @@ fn finish<K: Disk>(alloc: Global, copy: &mut K, kept: Kept) -> Result<(), CopyFa
     requires into { areas_end kept.areas ≤ K.size_of copy.old }
     requires counted { areas_end kept.areas < 2 ^ 64 }
     requires some { AREA_HEAD_BYTES ≤ kept.areas.length }
+    requires allowed { Copies → K.writable ≡ true }
     ensures { AreTrue (K.reads copy.new) → OnOk result (IsFinished kept (K.state copy.old).now (K.state copy.new).now) }
 {
     put_bytes(copy, area_start(kept.areas, kept.second), &[GATE_OPEN])?;
@@ -114,6 +116,7 @@ fn copy_kept<D: Disk, K: Disk>(
 ) -> Result<Option<Copied>, CopyFault>
     requires behind { area_start kept.areas kept.second + AREA_HEAD_BYTES ≤ kept.end }
     requires inside { kept.end < area_start kept.areas kept.second + kept.areas.length }
+    requires allowed { Copies → K.writable ≡ true }
     ensures premise { WereTrue (D.reads source.old) (D.reads source.new) }
     ensures kept { IfOk result (λ found. (D.state source.new).now ≡ (D.state source.old).now) }
     ensures leaves { LeavesNothingNew (D.state source.old) (D.state source.new) }
@@ -153,6 +156,7 @@ pub fn copy_opened<D: Disk, K: Disk>(
     copy: &mut K,
     opened: Opened,
 ) -> Result<Option<Copied>, CopyFault>
+    requires { Copies → K.writable ≡ true }
     ensures premise { WereTrue (D.reads source.old) (D.reads source.new) }
     ensures kept { IfOk result (λ found. (D.state source.new).now ≡ (D.state source.old).now) }
     ensures leaves { LeavesNothingNew (D.state source.old) (D.state source.new) }

@@ -1,11 +1,12 @@
 //! Bytes that go from one device to another one, each to its place.
 
-ghost use Rattle.std.specs.Prelude.{◌≡◌, ◌+◌, ◌^◌, ◌≤◌, ◌<◌, length, OnOk};
-ghost use Rattle.tp_recover.specs.Lower.{written, AreTrue, WereTrue};
+ghost use Rattle.std.specs.Prelude.{◌≡◌, ◌+◌, ◌^◌, ◌≤◌, ◌<◌, true, length, OnOk};
+ghost use Rattle.tp_recover.specs.Lower.{written, AreTrue, WereTrue, Copies};
 ghost use Rattle.tp_recover.specs.Copies.{with_range};
 ghost use Rattle.tp_recover.specs.Reading.{LeavesNothingNew};
 
 use crate::fault::CopyFault;
+use tp_area::put_copied;
 use tp_disk::Disk;
 use tp_model::limits::PAGE_BYTES;
 
@@ -14,11 +15,12 @@ const PIECE_BYTES: usize = 4 * PAGE_BYTES;
 
 /// Writes over the bytes of a copy.
 pub(crate) fn put_bytes<K: Disk>(copy: &mut K, at: u64, bytes: &[u8]) -> Result<(), CopyFault>
-    requires { at + length bytes.now ≤ K.size_of copy.old }
+    requires inside { at + length bytes.now ≤ K.size_of copy.old }
+    requires allowed { Copies → K.writable ≡ true }
     ensures size { K.size_of copy.new ≡ K.size_of copy.old }
     ensures bytes { OnOk result ((K.state copy.new).now.bytes ≡ written (K.state copy.old).now.bytes at bytes.now) }
 {
-    match copy.write_at(at, bytes) {
+    match put_copied(copy, at, bytes) {
         Ok(()) => Ok(()),
         Err(_) => Err(CopyFault::DeviceFailed),
     }
@@ -33,6 +35,7 @@ fn copy_piece<D: Disk, K: Disk>(
 ) -> Result<(), CopyFault>
     requires from { at + length piece.old ≤ D.size_of source.old }
     requires into { at + length piece.old ≤ K.size_of copy.old }
+    requires allowed { Copies → K.writable ≡ true }
     ensures source_size { D.size_of source.new ≡ D.size_of source.old }
     ensures copy_size { K.size_of copy.new ≡ K.size_of copy.old }
     ensures premise { WereTrue (D.reads source.old) (D.reads source.new) }
@@ -57,6 +60,7 @@ pub(crate) fn copy_range<D: Disk, K: Disk>(
     requires from { at + count ≤ D.size_of source.old }
     requires into { at + count ≤ K.size_of copy.old }
     requires counted { at + count < 2 ^ 64 }
+    requires allowed { Copies → K.writable ≡ true }
     ensures source_size { D.size_of source.new ≡ D.size_of source.old }
     ensures copy_size { K.size_of copy.new ≡ K.size_of copy.old }
     ensures premise { WereTrue (D.reads source.old) (D.reads source.new) }

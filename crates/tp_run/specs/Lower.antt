@@ -37,6 +37,7 @@ pub use Rattle.tp_book.specs.declared.refusal.Refusal.{Refusal}
 pub use Rattle.tp_disk.specs.Reads.{AreTrue, WereTrue}
 pub use Rattle.tp_area.specs.Capacity.{half_capacity, journal_of}
 pub use Rattle.tp_area.specs.Places.{place_at}
+pub use Rattle.tp_area.specs.Rights.{Steps}
 pub use Rattle.tp_recover.specs.EntriesLeft.{entries_left}
 pub use Rattle.tp_recover.specs.Reading.{LeavesNothingNew, ReadAnswer}
 pub use Rattle.tp_recover.specs.declared.unopened.Unopened.{Unopened}

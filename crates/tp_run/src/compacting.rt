@@ -1,7 +1,7 @@
 //! Compacting a device: its network as it is becomes the cut, and its journal becomes empty.
 
 ghost use Rattle.std.specs.Prelude.{◌≡◌, ◌≤◌, ◌+◌, [], length, true, false, Ok, Err, Some, None, IfOk, IfSome, IsErr, MatchResult};
-ghost use Rattle.tp_run.specs.Lower.{AreTrue, WereTrue, AllByRecursion, place_at, IsSameProcess, Walked, Began, IsNodeOfBytes, entries_left, IsSynced, is_full_for_snapshot, is_roomy, room, t414_ends, next_of, verdict, IsCut, Resting, LeavesNothingNew, Unopened, IsMadeOf, Names};
+ghost use Rattle.tp_run.specs.Lower.{AreTrue, WereTrue, AllByRecursion, place_at, IsSameProcess, Walked, Began, IsNodeOfBytes, entries_left, IsSynced, is_full_for_snapshot, is_roomy, room, t414_ends, next_of, verdict, IsCut, Resting, LeavesNothingNew, Unopened, IsMadeOf, Names, Steps};
 ghost use Rattle.tp_run.specs.Compacted.{AddsNone, CompactAnswer, Compacted, GrewByOne, IsBeginFault, SaysLast, StaysUnopened, begin_fault, flush_fault, has_failed_in, room_behind};
 ghost use Rattle.tp_run.specs.Failures.{failures_after};
 ghost use Rattle.tp_run.specs.Ran.{History};
@@ -268,6 +268,7 @@ pub fn compact<D: Disk, R: Wait>(
     disk: D,
 ) -> (D, Result<Compaction, CompactFault>)
     ghost history: { History }
+    requires { Steps → D.writable ≡ true }
     ensures size { D.size_of result.0 ≡ D.size_of disk }
     ensures premise { WereTrue (D.reads disk) (D.reads result.0) }
     ensures kept { AreTrue (D.reads result.0) → Began history.formatted history.before (D.state disk).now.bytes → Compacted history.formatted result.1 (D.state disk) (D.state result.0) }

@@ -1,7 +1,7 @@
 //! A run, from a device to a device.
 
 ghost use Rattle.std.specs.Prelude.{◌≡◌, ◌<◌, ◌≤◌, [], true, false, All, Ok, Err, Some, length, vec_len, IfErr, IfOk, IsErr};
-ghost use Rattle.tp_run.specs.Lower.{AreTrue, WereTrue, AllByRecursion, place_at, Began, IsSameProcess, Walked, IsSynced, IsNodeOfBytes, is_roomy, room, t414_ends, verdict, IsCut, Resting, MAX_STEPS, LeavesNothingNew, IsMadeOf, Unopened, MAX_WORKERS, Names};
+ghost use Rattle.tp_run.specs.Lower.{AreTrue, WereTrue, AllByRecursion, place_at, Began, IsSameProcess, Walked, IsSynced, IsNodeOfBytes, is_roomy, room, t414_ends, verdict, IsCut, Resting, MAX_STEPS, LeavesNothingNew, IsMadeOf, Unopened, MAX_WORKERS, Names, Steps};
 ghost use Rattle.tp_run.specs.Answered.{AnswerFor};
 ghost use Rattle.tp_run.specs.Failures.{failures_after, has_failed};
 ghost use Rattle.tp_run.specs.Faults.{ComesBegun, IsSilent, IsUnbegun};
@@ -188,6 +188,7 @@ pub fn run<D: Disk + Send + Drop, O: Outlet, R: Threads + Wait + Sync>(
     ghost history: { History }
     requires workers { (0 < job.workers) × (job.workers ≤ MAX_WORKERS) }
     requires quantum { (0 < job.quantum) × (job.quantum ≤ MAX_STEPS) }
+    requires allowed { Steps → D.writable ≡ true }
     ensures size { D.size_of result.0 ≡ D.size_of disk }
     ensures premise { WereTrue (D.reads disk) (D.reads result.0) }
     ensures ran { AreTrue (D.reads result.0) → Began history.formatted history.before (D.state disk).now.bytes

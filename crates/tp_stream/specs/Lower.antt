@@ -40,6 +40,7 @@ pub use Rattle.tp_turn.specs.declared.take.TheConstants.{TAKES, TURN_ENTRIES}
 pub use Rattle.tp_disk.specs.Reads.{AreTrue, WereTrue}
 pub use Rattle.tp_area.specs.Capacity.{capacity, half_capacity, journal_of, left_behind, takes}
 pub use Rattle.tp_area.specs.Places.{place_at}
+pub use Rattle.tp_area.specs.Rights.{Steps}
 pub use Rattle.tp_area.specs.declared.journal.JournalRoom.{JournalRoom}
 pub use Rattle.tp_recover.specs.Reading.{LeavesNothingNew, ReadAnswer}
 pub use Rattle.tp_recover.specs.declared.unopened.Unopened.{Unopened}

@@ -1,7 +1,7 @@
 //! A stream, from a device to a device.
 
 ghost use Rattle.std.specs.Prelude.{◌≡◌, ◌⊎◌, ◌++◌, ◌≤◌, false, true, Ok, Err, Some, length, map, OnOk, IfOk, IfErr, IsErr};
-ghost use Rattle.tp_stream.specs.Lower.{AreTrue, WereTrue, AllByRecursion, list_all, journal_of, place_at, Began, IsSynced, IsNodeOfBytes, is_roomy, room, t414_ends, OpenedValue, next_of, verdict, IsCut, node_count, MAX_STEPS, LeavesNothingNew, IsMadeOf, History, Names, given_input, is_over, given_of, Unopened};
+ghost use Rattle.tp_stream.specs.Lower.{AreTrue, WereTrue, AllByRecursion, list_all, journal_of, place_at, Began, IsSynced, IsNodeOfBytes, is_roomy, room, t414_ends, OpenedValue, next_of, verdict, IsCut, node_count, MAX_STEPS, LeavesNothingNew, IsMadeOf, History, Names, given_input, is_over, given_of, Unopened, Steps};
 ghost use Rattle.tp_stream.specs.FailedEnds.{NamesEnd};
 ghost use Rattle.tp_stream.specs.Failures.{StreamAnswer, answer_failed, calls_failed};
 ghost use Rattle.tp_stream.specs.Fitting.{SaysFit};
@@ -196,7 +196,8 @@ pub fn stream<
     stop: &mut P,
 ) -> (D, Result<Ended, StreamFault>)
     ghost history: { History }
-    requires { task.quantum ≤ MAX_STEPS }
+    requires quantum { task.quantum ≤ MAX_STEPS }
+    requires allowed { Steps → D.writable ≡ true }
     ensures size { D.size_of result.0 ≡ D.size_of disk }
     ensures premise { WereTrue (D.reads disk) (D.reads result.0) }
     ensures streamed { AreTrue (D.reads result.0) → Began history.formatted history.before (D.state disk).now.bytes

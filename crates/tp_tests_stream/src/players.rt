@@ -1,7 +1,7 @@
 //! Streams on a device in memory, and what is on the device then.
 
-ghost use Rattle.std.specs.Prelude.{◌≤◌, None, length};
-ghost use Rattle.tp_model.specs.declared.limits.TheConstants.{MAX_STEPS};
+ghost use Rattle.std.specs.Prelude.{◌≡◌, ◌≤◌, true, None, length};
+ghost use Rattle.tp_tests_stream.specs.Lower.{MAX_STEPS, Steps};
 
 use crate::devices::formatted;
 use std::alloc::{AllocError, Global};
@@ -213,7 +213,8 @@ fn play_within<D: Disk + Send + Drop, S: Sink, I: Source, L: Listener, R: Thread
     told: &mut L,
     asks: &mut Asks,
 ) -> (D, Result<Ended, StreamFault>)
-    requires { task.quantum ≤ MAX_STEPS }
+    requires quantum { task.quantum ≤ MAX_STEPS }
+    requires allowed { Steps → D.writable ≡ true }
 {
     stream(rt, alloc, task, disk, streams, told, asks)
 }

@@ -1,7 +1,7 @@
 //! Runs on a device in memory, and what is on the device then.
 
-ghost use Rattle.std.specs.Prelude.{◌<◌, ◌≤◌};
-ghost use Rattle.tp_tests_stream.specs.Lower.{MAX_STEPS, MAX_WORKERS};
+ghost use Rattle.std.specs.Prelude.{◌≡◌, ◌<◌, ◌≤◌, true};
+ghost use Rattle.tp_tests_stream.specs.Lower.{MAX_STEPS, MAX_WORKERS, Steps};
 
 use crate::devices::{ONE, formatted};
 use crate::players::{Left, look_at};
@@ -41,6 +41,7 @@ fn run_within<D: Disk + Send + Drop, R: Threads + Wait + Sync, O: Outlet>(
 ) -> (D, Result<u64, RunFault>)
     requires workers { (0 < job.workers) × (job.workers ≤ MAX_WORKERS) }
     requires quantum { (0 < job.quantum) × (job.quantum ≤ MAX_STEPS) }
+    requires allowed { Steps → D.writable ≡ true }
 {
     let (disk, done, _rest) = run(rt, alloc, job, disk, input, out);
     (disk, done)

@@ -1,7 +1,7 @@
 //! What is made of a device that opened: a network in threads, and its flusher.
 
 ghost use Rattle.std.specs.Prelude.{◌≡◌, ◌<◌, ◌≤◌, [], true, false, Ok, All, IfOk, Some};
-ghost use Rattle.tp_tests_threads.specs.Lower.{AreTrue, place_at, IsMadeOf, IsSynced, is_roomy, room, verdict, MAX_STEPS, Names, MAX_SEATS};
+ghost use Rattle.tp_tests_threads.specs.Lower.{AreTrue, place_at, IsMadeOf, IsSynced, is_roomy, room, verdict, MAX_STEPS, Names, MAX_SEATS, Steps};
 ghost use Rattle.tp_tests_threads.specs.Spelt.{IsSpelt};
 
 use std::alloc::{AllocError, Global};
@@ -73,6 +73,7 @@ fn parts_of(alloc: Global, opened: Opened, spare: usize) -> Result<(Parts, Raise
 
 /// Opens a device.
 pub fn opening_of<D: Disk + Drop>(alloc: Global, disk: D) -> Result<Opening<D>, Unopened>
+    requires { Steps → D.writable ≡ true }
     ensures { IfOk result (λ opening. IsSpelt opening.opened.value) }
 {
     opening_with(alloc, disk, SPARE)
@@ -84,6 +85,7 @@ pub fn opening_with<D: Disk + Drop>(
     disk: D,
     spare: usize,
 ) -> Result<Opening<D>, Unopened>
+    requires { Steps → D.writable ≡ true }
     ensures { IfOk result (λ opening. IsSpelt opening.opened.value) }
 {
     let mut disk = disk;

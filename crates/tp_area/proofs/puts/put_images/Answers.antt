@@ -8,8 +8,8 @@ use Rattle.tp_area.proofs.puts.put_images.Goals as goal
 abbrev items : Vec ℕ Global → List ℕ
 items image = image.items
 
-pub put_piece-requires : goal.put_piece-requires
-put_piece-requires g c =
+pub put_piece-requires-clause-inside : goal.put_piece-requires-clause-inside
+put_piece-requires-clause-inside g c =
     omega (arith, c.requires.inside, image_fits items c.args.images.now c.loop-image.image-index c.image-item.result c.loop-image-test.true c.image-item.is, c.loop-image.invariant.place, c.loop-image.invariant.size, c.deref.ensures.value)
 
 pub overflow_add-place : goal.overflow_add-place

@@ -13,5 +13,5 @@ pub returns-clause-leaves : goal.returns-clause-leaves
 returns-clause-leaves g c =
     let s = g.D.Disk.state c.args.disk.now in
     let t = g.D.Disk.state c.write_at.new.self in
-    let room : c.args.at + length c.args.bytes.now ≤ length s.now.bytes = omega (arith, c.requires, g.met.D.Disk.whole c.args.disk.now) in
+    let room : c.args.at + length c.args.bytes.now ≤ length s.now.bytes = omega (arith, c.requires.inside, g.met.D.Disk.whole c.args.disk.now) in
     write_leaves c.write_at.result c.args.at c.args.bytes.now s t room c.write_at.ensures.goes c.write_at.ensures.after c.write_at.ensures.failed

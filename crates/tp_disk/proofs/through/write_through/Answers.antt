@@ -14,7 +14,7 @@ pub returns-in_err-write_at-clause-any_moment : goal.returns-in_err-write_at-cla
 returns-in_err-write_at-clause-any_moment g c =
     let s = g.D.Disk.state c.args.disk.now in
     let t = g.D.Disk.state c.write_at.new.self in
-    let room : c.args.at + length c.args.bytes.now ≤ length s.now.bytes = omega (arith, c.requires, g.met.D.Disk.whole c.args.disk.now) in
+    let room : c.args.at + length c.args.bytes.now ≤ length s.now.bytes = omega (arith, c.requires.inside, g.met.D.Disk.whole c.args.disk.now) in
     call_leaves c.write_at.result (Write c.args.at c.args.bytes.now) s t room c.write_at.ensures.goes c.write_at.ensures.after c.write_at.ensures.failed
 
 pub returns-clause-broke : goal.returns-clause-broke
@@ -31,6 +31,6 @@ returns-clause-any_moment g c =
     let s = g.D.Disk.state c.args.disk.now in
     let t = g.D.Disk.state c.write_at.new.self in
     let u = g.D.Disk.state c.sync.new.self in
-    let room : c.args.at + length c.args.bytes.now ≤ length s.now.bytes = omega (arith, c.requires, g.met.D.Disk.whole c.args.disk.now) in
+    let room : c.args.at + length c.args.bytes.now ≤ length s.now.bytes = omega (arith, c.requires.inside, g.met.D.Disk.whole c.args.disk.now) in
     through_leaves c.sync.result c.args.at c.args.bytes.now s t u room c.in_ok-write_at.ensures.after c.write_at.ensures.goes c.sync.ensures.goes
     c.sync.ensures.after c.sync.ensures.failed

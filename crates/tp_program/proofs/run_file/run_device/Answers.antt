@@ -5,7 +5,7 @@ use Rattle.tp_program.proofs.Used.{and_more}
 use Rattle.tp_program.proofs.run_file.run_device.Goals as goal
 
 pub run_on-disk-requires : goal.run_on-disk-requires
-run_on-disk-requires g c κs within = (within.0, (within.1.0, (within.1.1.0, (within.1.1.1, (search (rules, sendable), (search (rules, sendable), c.requires.1.1.1.1.1.1.1.1.1.1.0))))))
+run_on-disk-requires g c κs within = (within.0, (within.1.0, (within.1.1.0, (within.1.1.1, (search (rules, sendable), (search (rules, sendable), (c.requires.1.1.1.1.1.1.1.1.1.1.0, g.met.S.Devices.may_step)))))))
 
 pub returns-clause-ran : goal.returns-clause-ran
 returns-clause-ran g c =

@@ -23,7 +23,7 @@ stream-disk-requires g c κs within =
     let stop = ⊑_meet μ _ _ (⊑_meet μ _ _ rt nothing) (⊑_meet μ _ _ (⊑_meet μ _ _ own rt) request) in
     let crosses = c.requires.1.1.1.1.1.1.1.1.0 in
     let shared = c.requires.1.1.1.1.1.1.1.1.1.0 in
-    (within.0, (within.1.0, (within.1.1.0, (teller, (stop, (within.1.1.1.1.1.1, (search (rules, sendable, crosses), (search (rules, sendable, shared), c.spread_over-task.ensures.quantum))))))))
+    (within.0, (within.1.0, (within.1.1.0, (teller, (stop, (within.1.1.1.1.1.1, (search (rules, sendable, crosses), (search (rules, sendable, shared), (c.spread_over-task.ensures.quantum, c.requires.1.1.1.1.1.1.1.1.1.1.1)))))))))
 
 pub returns-clause-streamed : goal.returns-clause-streamed
 returns-clause-streamed g c premise began = c.stream-disk.ensures.put premise began

@@ -5,8 +5,8 @@ use Rattle.tp_area.proofs.OtherArea.{some_area, gate_inside, cleared_by, cleared
 use Rattle.tp_area.proofs.StoreCrashes.{rests_leaves}
 use Rattle.tp_area.proofs.store.Store.clear_other.Goals as goal
 
-pub close_gate-requires : goal.close_gate-requires
-close_gate-requires g c =
+pub close_gate-requires-clause-inside : goal.close_gate-requires-clause-inside
+close_gate-requires-clause-inside g c =
     let a = c.args.self.now in
     gate_inside a.place.areas (g.D.Disk.size_of a.disk) c.area_start-gate.result a.place.end a.place.second c.area_start-gate.ensures a.whole a.behind a.inside
 

@@ -1,0 +1,49 @@
+//! The rights to write devices. No other crate can make one.
+//!
+//! A function that never returns owes no `ensures`. So what it writes before is ruled out by what `Disk::write_at` asks: that devices of this
+//! type may be written. A caller above this crate knows it, for any type of devices, only under one of these rights. `run` gets
+//! `Steps → D.writable ≡ true`: it can hand a device to a store, but it can't write or format it.
+
+ghost use Rattle.std.specs.Prelude.{◌≡◌, true};
+ghost use Rattle.tp_area.specs.Rights.{Steps, Formats, Copies};
+
+use tp_disk::Disk;
+
+/// Of this a right is made. This module is private and has no `impl`, so proofs of other crates can name nothing of it: by an `impl` they could. A
+/// variant without a field is made by `grind` in any crate.
+pub(crate) enum Secret {
+    Number(u64),
+}
+
+/// Who may step.
+pub(crate) enum Stepper {
+    By(Secret),
+}
+
+/// Who may format.
+pub(crate) enum Formatter {
+    By(Secret),
+}
+
+/// Who may write a copy.
+pub(crate) enum Copier {
+    By(Secret),
+}
+
+/// Says that a step of a store may write the device. It does nothing.
+pub(crate) fn may_step<D: Disk>()
+    requires { Steps → D.writable ≡ true }
+    ensures { D.writable ≡ true }
+{}
+
+/// Says that formatting may write the device. It does nothing.
+pub(crate) fn may_format<D: Disk>()
+    requires { Formats → D.writable ≡ true }
+    ensures { D.writable ≡ true }
+{}
+
+/// Says that a copy may be written. It does nothing.
+pub(crate) fn may_copy<D: Disk>()
+    requires { Copies → D.writable ≡ true }
+    ensures { D.writable ≡ true }
+{}
