@@ -103,21 +103,21 @@ pub use Rattle.tp_book.specs.PortParts.{port_made}
 pub use Rattle.tp_book.specs.Ports.{PortValue, opened_port}
 pub use Rattle.tp_book.specs.declared.port_parts.PortParts.{PortParts}
 pub use Rattle.tp_book.specs.declared.state.NetState.{NetState}
-pub use Rattle.tp_pieces.proofs.Counting.{counted_room}
-pub use Rattle.tp_pieces.specs.Apart.{CanSplit, network_apart}
-unfoldable pub use Rattle.tp_pieces.specs.Counts.{room_of}
-pub use Rattle.tp_pieces.specs.declared.apart.Apart.{Apart}
 pub use Rattle.tp_replay.proofs.Counted.{counted_next}
+pub use Rattle.tp_replay.proofs.Counting.{counted_room}
 pub use Rattle.tp_replay.proofs.Flat.{flat_next, markers_next}
 pub use Rattle.tp_replay.proofs.History.{history_of}
 pub use Rattle.tp_replay.proofs.Rows.{applied_is, group_done, group_from, row_damaged, row_replayed, rows_damaged, rows_on, rows_replayed}
 pub use Rattle.tp_replay.specs.Answers.{AppliesEntry}
+pub use Rattle.tp_replay.specs.Apart.{CanSplit, network_apart}
+unfoldable pub use Rattle.tp_replay.specs.Counts.{room_of}
 pub use Rattle.tp_replay.specs.Flat.{AreThawed, EntryTakesByte, IsFlat, network_flat}
 pub use Rattle.tp_replay.specs.History.{IsHistory}
 pub use Rattle.tp_replay.specs.Rows.{ReplaysRow}
 pub use Rattle.tp_replay.specs.declared.fault.NotPossible.{NotPossible}
 pub use Rattle.tp_replay.specs.declared.fault.ReplayFault.{ReplayFault}
 pub use Rattle.tp_replay.specs.declared.fault.ReplayFault.TheVariants.{Damaged as Damages, Memory as WantsMemory}
+pub use Rattle.tp_replay.specs.declared.pieces.apart.Apart.{Apart}
 pub use Rattle.tp_disk.proofs.Calls.{and_then, call_leaves, started, weaker}
 pub use Rattle.tp_disk.proofs.Readings.{read_gave}
 pub use Rattle.tp_disk.specs.Reads.{AreTrue, WereTrue}

@@ -52,9 +52,9 @@ pub use Rattle.tp_book.specs.Counted.{AreCounted}
 pub use Rattle.tp_book.specs.Joined.{FitsRoom}
 pub use Rattle.tp_book.specs.Opened.{IsWellOpen, cut_of, now_of}
 pub use Rattle.tp_book.specs.PortParts.{port_made}
-pub use Rattle.tp_pieces.specs.Apart.{CanSplit, network_apart}
-pub use Rattle.tp_pieces.specs.Inside.{AreLive}
+pub use Rattle.tp_replay.specs.Apart.{CanSplit, network_apart}
 pub use Rattle.tp_replay.specs.Flat.{IsFlat}
+pub use Rattle.tp_replay.specs.NodesInside.{AreLive}
 pub use Rattle.tp_replay.specs.Rows.{ReplaysRow, ReplaysRows}
 pub use Rattle.tp_replay.specs.declared.fault.ReplayFault.{ReplayFault}
 pub use Rattle.tp_replay.specs.declared.fault.ReplayFault.TheVariants.{Damaged as Damages, Memory as WantsMemory}

@@ -13,7 +13,7 @@ use std::alloc::Global;
 use std::thread::Threads;
 use tp_area::Head;
 use tp_disk::Disk;
-use tp_gate::Gate;
+use tp_replay::Gate;
 
 /// Opens the device with `head`, as `open_area` does, by the pieces of its network: its second area if `second` is true, else its first.
 fn open_apart<D: Disk, R: Threads + Sync, G: Gate + Sync>(
@@ -52,7 +52,7 @@ fn open_apart<D: Disk, R: Threads + Sync, G: Gate + Sync>(
 
 /// Opens a device, as `open` does, each node by itself. Its entries are replayed by pieces of its network, one for each worker that gets a
 /// node, and one for the host. Each piece is the job of a thread of its own. When one begins that has nodes, it calls the gate at point 7
-/// (`tp_gate::PIECE_BEGUN`) with the first of them.
+/// (`tp_replay::PIECE_BEGUN`) with the first of them.
 ///
 /// The answer is what `open` answers, word for word, for any number of workers. All rows are read before the first entry is replayed. So if
 /// the device fails, or memory is out, while later rows are read, that is the answer even if an earlier entry is damaged.

@@ -1,7 +1,6 @@
 -- What every network in one thread keeps.
 use Rattle.std.specs.Prelude.{◌≡◌, ◌≤◌, ◌<◌, ℕ, ◌+◌, ◌*◌, ◌^◌, List, length, map, Option, Some, None, slice_get}
-use Rattle.tp_replay.specs.Lower.{Token, WireEnd, Entry, Run, Take, HostIn, Confirm, Turn, NodeState, t414_ends, Network, on_line, Sound, markers, MAX_NODES, MAX_PORTS, by_link, CarriesByte, CarryBytes, IsNodeOfBytes, NodeContents, PortValue}
-use Rattle.tp_model.specs.Network.{Port}
+use Rattle.tp_replay.specs.Lower.{Token, WireEnd, Entry, Run, Take, HostIn, Confirm, Turn, NodeState, t414_ends, Network, on_line, Sound, markers, MAX_NODES, MAX_PORTS, by_link, CarriesByte, CarryBytes, IsNodeOfBytes, NodeContents, PortValue, Port}
 
 -- A line for each link and each port, and at most as many nodes and ports as a network may have.
 pub record HasFlatShape (s : Network NodeState) : Type 0 where

@@ -1,7 +1,8 @@
 //! Tokens that are taken.
 
 ghost use Rattle.std.specs.Prelude.{◌≡◌, ◌<◌, ℕ, Some, false, true, length, OnErr};
-ghost use Rattle.tp_replay.specs.Lower.{Take, Data, Link, Port, next, is_marker, is_first, on_line, receiver, t414};
+ghost use Rattle.tp_replay.specs.Lower.{Take, Data, Link, next, is_marker, is_first, on_line, receiver, t414};
+ghost use Rattle.tp_model.specs.declared.wire.WireEnd.TheVariants.{Port};
 ghost use Rattle.tp_replay.specs.Answers.{AppliesEntry};
 ghost use Rattle.tp_replay.specs.Flat.{CanCount};
 

@@ -7,11 +7,11 @@ use std::alloc::Global;
 use std::process::Abort;
 use std::thread::Threads;
 use tp_disk::MemDisk;
-use tp_gate::NoGate;
 use tp_model::OpenFault;
 use tp_model::OpenFault::Damaged;
 use tp_model::limits::NARROW_HEAD_BYTES;
 use tp_recover::{Opened, Unopened, open, open_parallel};
+use tp_replay::NoGate;
 use tp_tests_fixtures::place;
 
 /// How many workers open each device: one; two; more than there are nodes; and the most there may be.

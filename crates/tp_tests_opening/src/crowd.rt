@@ -2,7 +2,7 @@
 
 use std::sync::atomic::{AtomicU32, Ordering};
 use std::thread::yield_now;
-use tp_gate::{Gate, PIECE_BEGUN};
+use tp_replay::{Gate, PIECE_BEGUN};
 
 /// How often a thread looks for the others, at most. If one comes no more that is a second or two, and the test fails by what was counted.
 const LOOKS: u32 = 1_000_000;

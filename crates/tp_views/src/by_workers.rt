@@ -9,8 +9,8 @@ use crate::steady::{MAX_TRIES, Tried, is_still, look};
 use std::alloc::Global;
 use std::thread::Threads;
 use tp_disk::Disk;
-use tp_gate::NoGate;
 use tp_recover::{Opened, Unopened, open, open_parallel};
+use tp_replay::NoGate;
 use tp_words::MAX_WORKERS;
 
 /// Opens a device with `workers` threads, 2 to 16. With 1, or a number that no command line asks for, this thread opens it alone. Its answer is that

@@ -1,0 +1,11 @@
+use Rattle.tp_replay.proofs.Halves.{both_halves, first_half, same_all}
+use Rattle.tp_replay.proofs.pieces.nodes_part.NodesPart.go_on.Goals as goal
+
+pub returns-then-not-take_off : goal.returns-then-not-take_off
+returns-then-not-take_off c = record { same = c.take_off.ensures.same; goes = first_half c.args.self.now c.take_off.new.self c.args.entry.now c.if-not-take_off.ensures }
+
+pub returns : goal.returns
+returns c = record {
+  same = same_all c.args.self.now c.take_off.new.self c.act.new.self c.take_off.ensures.same c.act.ensures.same;
+  goes = both_halves c.args.self.now c.take_off.new.self c.act.new.self c.args.entry.now c.act.result c.if-not-take_off.ensures c.act.ensures;
+}
