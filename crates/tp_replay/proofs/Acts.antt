@@ -218,8 +218,3 @@ pub of_port-cannot : (N p : ℕ) (ports : List Port) (port : Port) (change : Por
     → ◌≡◌ {A = Option (Own NodeState × List (ℕ × Token))} (of_port N p ports change) None
 unfolding of_port
 of_port-cannot N p ports port change there isnt = rw (there, none_is (change port) isnt)
-
--- what an option is that is there
-pub there_is : {A : Type 0} (o : Option A) → is_some o ≡ true → (x : A) × (o ≡ Some x)
-there_is None is = absurd (true≢false (sym is))
-there_is (Some x) is = (x, refl)

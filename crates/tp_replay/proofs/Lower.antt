@@ -53,7 +53,7 @@ pub use Rattle.tp_law_machine.proofs.Nodes.{carries, node_steps, node_took}
 pub use Rattle.tp_law_machine.proofs.ReplayedRows.{after_rows-append}
 pub use Rattle.tp_law_machine.proofs.Taking.{takes_ack, takes_data}
 pub use Rattle.tp_law_machine.specs.NodeOfBytes.{CarriesByte, CarryBytes, IsNodeOfBytes}
-pub use Rattle.tp_law_network.proofs.ByItself.{node_there}
+pub use Rattle.tp_law_network.proofs.ByItself.{node_there, node_there as found}
 pub use Rattle.tp_law_network.proofs.InPlace.{flights_found, sound_in_place}
 pub use Rattle.tp_law_network.proofs.Lines.{cons_taken, first_is, for_line-append, for_line-elsewhere, for_line-here, for_line-other, is_first-cons, length_sent, length_taken, line_there, on_sent_none, on_sent_open, on_set_other, on_set_same, on_taken, same_lines, sent-append, sent_behind, taken-sent, taken_cons, taken_from}
 pub use Rattle.tp_law_network.proofs.Local.{SameShape, Step, TurnStep, comes_first, link_is, next_from, own-host, own-node, own_host, own_node, owner_of_link, port_step, process_same, put-length, put-lines, sends_own, step_lines, step_of, step_own_other, step_own_same, step_shape, steps_links, turn_step}

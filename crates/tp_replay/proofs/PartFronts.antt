@@ -1,10 +1,11 @@
 -- Tokens of a turn, taken off a part's lines one after the other.
-use Rattle.std.proofs.Common.{◌≡◌, ℕ, ◌+◌, ◌<◌, Bool, true, false, cond, inl, inr, List, [], ◌∷◌, ◌++◌, length, map, set, take, drop, get_or, refl, sym, ap, subst, ◌∙◌, Option, Some, None}
+use Rattle.std.proofs.Common.{◌≡◌, ℕ, ◌+◌, ◌<◌, Bool, true, false, cond, List, [], ◌∷◌, ◌++◌, length, map, take, drop, get_or, refl, sym, ap, subst, ◌∙◌, Option, Some, None}
 use Rattle.std.specs.Prelude.{MatchBool}
-use Rattle.tp_replay.proofs.Lower.{cases_Bool, map_more, map-append, take-append-drop, Token, WireEnd, NodeState, ◌>>=◌, Network, on_line, is_first, taken, by_line, incoming, bind_some, Piece, from_piece, sends}
+use Rattle.tp_replay.proofs.Lower.{map_more, map-append, take-append-drop, Token, NodeState, ◌>>=◌, Network, on_line, is_first, taken, by_line, incoming, bind_some, Piece, from_piece, sends}
 use Rattle.tp_replay.specs.Held.{HeldPart, has}
-use Rattle.tp_replay.specs.Behind.{without, SameProcesses, TakesTokens}
+use Rattle.tp_replay.specs.Behind.{without, TakesTokens}
 use Rattle.tp_replay.proofs.Halves.{same_all, same_has}
+use Rattle.tp_replay.proofs.Steps.{without_front}
 
 -- ## Two lists of tokens
 
@@ -18,17 +19,13 @@ from_both piece N (x ∷ xs) ys = go (sends piece N x.0) (from_both piece N xs y
     go true h = ap (λ zs. x ∷ zs) h
     go false h = h
 
--- the lines without the front that a token is at
-abbrev popped : List (List Token) → ℕ × Token → List (List Token)
-popped lines x = set lines x.0 (drop 1 (on_line lines x.0))
-
 taken_both : (lines : List (List Token)) (xs ys : List (ℕ × Token)) → taken lines (xs ++ ys) ≡ (taken lines xs >>= λ left. taken left ys)
 unfolding taken
 taken_both lines [] ys = refl
-taken_both lines (x ∷ xs) ys = go (is_first (on_line lines x.0) x.1) (taken_both (popped lines x) xs ys)
+taken_both lines (x ∷ xs) ys = go (is_first (on_line lines x.0) x.1) (taken_both (without_front lines x.0) xs ys)
   where
-    go : (b : Bool) → taken (popped lines x) (xs ++ ys) ≡ (taken (popped lines x) xs >>= λ left. taken left ys)
-        → cond b (taken (popped lines x) (xs ++ ys)) None ≡ (cond b (taken (popped lines x) xs) None >>= λ left. taken left ys)
+    go : (b : Bool) → taken (without_front lines x.0) (xs ++ ys) ≡ (taken (without_front lines x.0) xs >>= λ left. taken left ys)
+        → cond b (taken (without_front lines x.0) (xs ++ ys)) None ≡ (cond b (taken (without_front lines x.0) xs) None >>= λ left. taken left ys)
     go true h = h
     go false h = refl
 

@@ -1,9 +1,10 @@
 -- Each kind of entry, if it is possible: a step of the network.
 use Rattle.std.proofs.Common.{◌≡◌, ℕ, ◌+◌, ◌*◌, ◌<◌, ◌≤◌, true, cond, List, [], ◌∷◌, ◌++◌, length, map, set, drop, refl, ap, ◌∙◌, Some, None, slice_get}
 use Rattle.std.specs.Prelude.{nat_lt, nat_le, ◌&&◌}
-use Rattle.tp_replay.proofs.Lower.{option_map, and_from, cond-true, lt-ltb, le-leb, Token, Received, Link, AtPort, Entry, Run, Take, HostIn, Confirm, Turn, MAX_STEPS, NodeState, t414, took, ◌>>=◌, steps, Port, Network, OfNode, OfHost, own, put, receiver, has_wire, process_at, on_line, is_first, taken, sent, by_link, comes_in, took_all, turned, process, takes, of_node, receives, port_took, handed_in, confirmed, does, IsFront, cons_taken, Step, own-host}
+use Rattle.tp_replay.proofs.Lower.{option_map, and_from, cond-true, lt-ltb, le-leb, Token, Received, Link, AtPort, Entry, Run, Take, HostIn, Confirm, Turn, MAX_STEPS, NodeState, t414, took, ◌>>=◌, steps, Port, Network, OfNode, OfHost, own, put, receiver, has_wire, process_at, on_line, is_first, taken, sent, by_link, comes_in, took_all, turned, process, takes, of_node, receives, port_took, handed_in, confirmed, does, IsFront, Step, own-host}
 pub use Rattle.tp_book.proofs.Owns.{own_there}
 use Rattle.tp_replay.proofs.Lower.{of_port-is, on_lines}
+use Rattle.tp_replay.proofs.Room.{taken-front}
 
 -- the lines without the front of one
 abbrev pub without_front : List (List Token) → ℕ → List (List Token)
@@ -29,12 +30,6 @@ pub record Made (s : Network NodeState) (e : Entry) (out : List (List Token)) (s
 
 made : (s : Network NodeState) (e : Entry) (t : Network NodeState) (S : Step t414 s e t) → Made s e S.out S.sends t
 made s e t S = record { step = S; is_out = refl; is_sends = refl }
-
--- the front of a line is taken off
-front_taken : (s : Network NodeState) (line : ℕ) (token : Token) → is_first (on_line s.lines line) token ≡ true
-    → taken s.lines ((line, token) ∷ []) ≡ Some (without_front s.lines line)
-unfolding taken
-front_taken s line token front = cons_taken s.lines (line, token) [] front
 
 pub run_step : (s : Network NodeState) (i count : ℕ) (n after : NodeState) (tokens : List (ℕ × Token)) → slice_get s.nodes i ≡ Some n
     → 0 < count → count ≤ MAX_STEPS → steps t414 count n ≡ Some (after, tokens)
@@ -62,7 +57,7 @@ unfolding takes process does receives put
 node_takes s line i k token n after tokens to front at did =
     made s (Take line token) _ (record {
       out = without_front s.lines line;
-      takes_out = front_taken s line token front;
+      takes_out = taken-front s.lines line token front;
       was = OfNode n;
       own_was = ap (own s) mine ∙ own_there s i n at;
       now = OfNode after;
@@ -82,7 +77,7 @@ unfolding takes process does receives put
 port_takes s line p token port after tokens to front at did =
     made s (Take line token) _ (record {
       out = without_front s.lines line;
-      takes_out = front_taken s line token front;
+      takes_out = taken-front s.lines line token front;
       was = OfHost s.ports;
       own_was = ap (own s) mine ∙ own-host s;
       now = OfHost (set s.ports p after);

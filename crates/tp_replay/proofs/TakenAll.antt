@@ -1,7 +1,7 @@
 -- A node takes the tokens of a turn, one after the other. In a flat network it can, if they are at the front of their lines.
-use Rattle.std.proofs.Common.{◌≡◌, ℕ, ◌+◌, ◌<◌, ◌≤◌, true, List, [], ◌∷◌, ◌++◌, length, drop, get_or, refl, sym, ap, subst, ◌∙◌, arith, add-one, drop-cons, append_assoc, append-nil, length-set, Option, Some, None, IsSome, slice_get}
+use Rattle.std.proofs.Common.{◌≡◌, ℕ, ◌+◌, ◌<◌, ◌≤◌, true, List, [], ◌∷◌, ◌++◌, length, drop, get_or, refl, sym, ap, subst, ◌∙◌, add-one, drop-cons, append_assoc, append-nil, length-set, Option, Some, None, IsSome, slice_get}
 use Rattle.std.specs.Prelude.{is_some}
-use Rattle.tp_replay.proofs.Lower.{option_map, AllByRecursion, drop_all, Token, Take, NodeState, t414, took, on_link, ◌>>=◌, Network, has_wire, taken, sent, by_line, comes_in, incoming, took_all, taken_cons, taken-sent, comes_first, AreUnmarked, all_append, bind_some, slice_get-set_same, CarryBytes, has_four_links, on_lines}
+use Rattle.tp_replay.proofs.Lower.{option_map, AllByRecursion, drop_all, Token, Take, NodeState, t414, took, ◌>>=◌, Network, has_wire, taken, sent, by_line, comes_in, incoming, took_all, taken_cons, taken-sent, comes_first, AreUnmarked, all_append, bind_some, slice_get-set_same, CarryBytes, has_four_links, on_lines}
 use Rattle.tp_replay.specs.Flat.{IsFlat}
 use Rattle.tp_replay.proofs.Applied.{there_is}
 use Rattle.tp_replay.proofs.Flat.{flat_step}
@@ -86,11 +86,6 @@ taken_behind tokens i n d x below some did =
     let alike : Some N.after ≡ Some x = sym N.took ∙ did in
     let same : N.after ≡ x = cc in
     subst (λ y. Behind tokens i n y) same (record { rest = N.rest; is = N.is })
-
--- to one token at most one
-pub on_link_few : (k : ℕ) (token : Option Token) → length (on_link k token) ≤ 1
-on_link_few k None = omega arith
-on_link_few k (Some token) = omega arith
 
 pub answers_twice : (first second : List (ℕ × Token)) (o : Option (NodeState × List (ℕ × Token))) → option_map (with_answers first) (option_map (with_answers second) o) ≡ option_map (with_answers (first ++ second)) o
 answers_twice first second None = refl

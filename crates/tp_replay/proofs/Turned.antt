@@ -1,7 +1,7 @@
 -- A turn of a node, of as many steps as it could make.
-use Rattle.std.proofs.Common.{◌≡◌, ℕ, zero, suc, ◌+◌, ◌*◌, ◌<◌, ◌≤◌, true, List, [], ◌∷◌, ◌++◌, length, refl, sym, ap, subst, ◌∙◌, arith, Some, None, IsSome, slice_get}
+use Rattle.std.proofs.Common.{◌≡◌, ℕ, ◌+◌, ◌*◌, ◌<◌, ◌≤◌, true, List, [], ◌∷◌, ◌++◌, length, refl, sym, ap, subst, ◌∙◌, arith, Some, None, IsSome, slice_get}
 use Rattle.std.specs.Prelude.{Bool, ◌&&◌, is_some, nat_lt, nat_le}
-use Rattle.tp_replay.proofs.Lower.{AllByRecursion, option_map, with_item, and_parts, leb-true, le-leb, map-append, slice_get-map, slice_get_within, Token, Received, Turn, MAX_STEPS, NodeState, t414, node_step, Network, steps, has_wire, pushed, sent, taken, by_link, by_line, comes_in, took_all, takes, IsFront, sent-append, steps_links, unmarked_links, CarryBytes, has_four_links, NodeContents, on_lines, HasRoom, all_known}
+use Rattle.tp_replay.proofs.Lower.{AllByRecursion, option_map, with_item, and_parts, leb-true, le-leb, map-append, slice_get-map, slice_get_within, Token, Received, Turn, MAX_STEPS, NodeState, t414, node_step, Network, steps, has_wire, pushed, sent, taken, by_link, by_line, comes_in, took_all, takes, IsFront, sent-append, steps_links, unmarked_links, CarryBytes, has_four_links, NodeContents, on_lines, HasRoom, all_known, found}
 use Rattle.tp_replay.specs.declared.network.FlatNetwork.TheInside.{Inside}
 use Rattle.tp_replay.specs.Answers.{TurnedUpTo}
 use Rattle.tp_replay.specs.Inside.{replay_state, IsInside}
@@ -18,11 +18,6 @@ room_parts on lines [] ns room = (tt, room)
 room_parts on lines (m ∷ ms) ns room = let R = room_parts on (pushed on lines m.0 m.1) ms ns room.1 in ((room.0, R.0), R.1)
 
 -- ## Where it is possible to take
-
-found : {A : Type 0} (xs : List A) (i : ℕ) → i < length xs → (x : A) × (slice_get xs i ≡ Some x)
-found [] i below = absurd (omega (arith, below))
-found (x ∷ xs) zero below = (x, refl)
-found (x ∷ xs) (suc i) below = found xs i (omega (arith, below))
 
 -- its tokens came in on its links, and are at the front of their lines
 pub front_there : (s : Network NodeState) (i : ℕ) (links : List Received) (count : ℕ) → i < length s.nodes → (nat_lt 0 (length (by_link 0 links)) && nat_le count MAX_STEPS) ≡ true

@@ -1,4 +1,4 @@
-//! What can be taken.
+//! What is tested before an entry is done.
 
 ghost use Rattle.std.specs.Prelude.{◌≡◌, ◌<◌, ℕ, IsTrue, List, length, Some, is_some, ◌&&◌, not, slice_get};
 ghost use Rattle.tp_replay.specs.Lower.{port_took, handed_in, confirmed, is_marker, is_first, Token};
@@ -7,14 +7,25 @@ use tp_book::HostPort;
 use tp_model::Token;
 use tp_model::limits::MAX_HELD;
 
-/// Whether a token is at the front of a line and is no Marker.
-pub(crate) fn stands_in_front(front: Option<Token>, token: Token) -> bool
-    ensures { (line : List Token) → slice_get line 0 ≡ front → result ≡ (is_first line token && not (is_marker token)) }
+/// Whether a token is at the front of a line, given that front.
+pub(crate) fn is_front(front: Option<Token>, token: Token) -> bool
+    ensures { (line : List Token) → slice_get line 0 ≡ front → result ≡ is_first line token }
 {
     match (front, token) {
         (Some(Token::Data(byte)), Token::Data(other)) => byte == other,
         (Some(Token::Ack), Token::Ack) => true,
+        (Some(Token::Marker), Token::Marker) => true,
         _ => false,
+    }
+}
+
+/// Whether a token is at the front of a line and is no Marker.
+pub(crate) fn stands_in_front(front: Option<Token>, token: Token) -> bool
+    ensures { (line : List Token) → slice_get line 0 ≡ front → result ≡ (is_first line token && not (is_marker token)) }
+{
+    match token {
+        Token::Marker => false,
+        Token::Data(_) | Token::Ack => is_front(front, token),
     }
 }
 

@@ -3,7 +3,6 @@
 
 pub(crate) mod apart;
 pub(crate) mod copies;
-pub(crate) mod front;
 pub(crate) mod host_part;
 pub(crate) mod joins;
 pub(crate) mod lanes;
@@ -12,8 +11,8 @@ pub(crate) mod net_part;
 pub(crate) mod nodes_part;
 pub(crate) mod outcome;
 pub(crate) mod part;
+pub(crate) mod places;
 pub(crate) mod play;
-pub(crate) mod ports;
 pub(crate) mod splits;
 pub(crate) mod stops;
 pub(crate) mod turns;

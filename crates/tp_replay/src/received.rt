@@ -12,7 +12,7 @@ use tp_net::{Lines, receiver};
 use tp_node::{NoFrame, Node};
 
 /// Whether an end is this link of this node.
-fn is_link(end: Option<WireEnd>, node: usize, link: usize) -> bool
+pub(crate) fn is_link(end: Option<WireEnd>, node: usize, link: usize) -> bool
     ensures { result ≡ is_link node link end }
 {
     match end {

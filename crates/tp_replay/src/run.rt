@@ -49,7 +49,7 @@ impl FlatNetwork {
 }
 
 /// Whether a run may have `count` steps.
-fn is_count(count: u16) -> bool
+pub(crate) fn is_count(count: u16) -> bool
     ensures value { result ≡ (nat_lt 0 count && nat_le count MAX_STEPS) }
     ensures some { IsTrue result → 0 < count }
     ensures few { IsTrue result → count ≤ MAX_STEPS }

@@ -8,9 +8,9 @@ ghost use Rattle.tp_replay.specs.Behind.{Applies, DoesRest, TakesOff, TakesToken
 ghost use Rattle.tp_replay.specs.Counts.{PortsCanCount, room_of};
 
 use crate::Part;
-use crate::pieces::front::is_there;
+use crate::front::{can_confirm, can_take, has_room};
 use crate::pieces::lanes::Lanes;
-use crate::pieces::ports::{can_confirm, can_take, has_room};
+use crate::pieces::places::is_there;
 use std::marker::Model;
 use tp_book::{HostPort, tokens_of};
 use tp_model::{Entry, Token, WireEnd};

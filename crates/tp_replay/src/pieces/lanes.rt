@@ -1,15 +1,15 @@
 //! Wires, and the lines as one part has them.
 
-ghost use Rattle.std.specs.Prelude.{◌≡◌, ◌<◌, ◌≤◌, [], ◌∷◌, IfOk, MatchBool, Some, None, length};
+ghost use Rattle.std.specs.Prelude.{◌≡◌, ◌<◌, ◌≤◌, [], ◌∷◌, IfOk, MatchBool, Some, None};
 ghost use Rattle.tp_replay.specs.Lower.{has_wire, pushed, receiver, sent, taken, from_line, sends_on};
 ghost use Rattle.tp_replay.specs.Lanes.{Overfills, SameLanes};
 
+use crate::front::is_front;
 use crate::pieces::copies::copy_of;
-use crate::pieces::front::is_front;
 use std::alloc::{AllocError, Global};
 use std::marker::Model;
 use tp_model::{Token, WireEnd};
-use tp_net::Lines;
+use tp_net::{Lines, receiver};
 
 /// Tokens that a line may have in a part. In a network no line has more, except for Markers.
 const MOST: usize = 2;
@@ -46,11 +46,7 @@ impl Lanes {
     pub(crate) fn receiver(&self, line: usize) -> Option<WireEnd>
         ensures { result ≡ receiver self.now.wires line }
     {
-        if line < self.wires.len() {
-            self.wires[line]
-        } else {
-            None
-        }
+        receiver(&self.wires, line)
     }
 
     /// Takes a token off a line if it is at the front there. Answers whether it is.

@@ -7,8 +7,9 @@ ghost use Rattle.tp_replay.specs.Held.{has};
 ghost use Rattle.tp_replay.specs.Behind.{Applies, DoesRest, TakesOff, TakesTokens};
 
 use crate::Part;
-use crate::pieces::front::{is_count, link_at, place};
 use crate::pieces::lanes::Lanes;
+use crate::pieces::places::{link_at, place};
+use crate::run::is_count;
 use arrayvec::ArrayVec;
 use std::marker::Model;
 use tp_book::tokens_of;

@@ -1,21 +1,22 @@
 //! A turn: the tokens that its node takes, and then its steps.
 
-ghost use Rattle.std.specs.Prelude.{◌≡◌, ◌<◌, ◌≤◌, ◌+◌, ◌^◌, ◌++◌, ◌&&◌, [], ◌∷◌, IfSome, List, MatchBool, MatchOption, Option, Some, None, length, map, nat_lt, nat_le, true, false};
-ghost use Rattle.tp_replay.specs.Lower.{Turn, MAX_NODES, MAX_STEPS, Token, has_wire, receiver, sent, on_link, t414, took, by_line, by_link, comes_in, incoming, is_link, received, took_all, turned, from_line};
+ghost use Rattle.std.specs.Prelude.{◌≡◌, ◌<◌, ◌≤◌, ◌+◌, ◌^◌, ◌++◌, ◌&&◌, [], ◌∷◌, MatchBool, MatchOption, Option, Some, None, length, nat_lt, nat_le, true, false};
+ghost use Rattle.tp_replay.specs.Lower.{Turn, MAX_STEPS, Token, has_wire, receiver, sent, on_link, t414, took, by_line, comes_in, incoming, is_link, received, took_all, turned, from_line};
 ghost use Rattle.tp_replay.specs.Behind.{DoesRest, TakesTokens};
 ghost use Rattle.tp_replay.specs.NodesInside.{IsLive};
 ghost use Rattle.tp_replay.specs.Lanes.{Overfills, SameLanes};
 
-use crate::pieces::front::place;
 use crate::pieces::host_part::HostPart;
 use crate::pieces::lanes::Lanes;
 use crate::pieces::nodes_part::NodesPart;
+use crate::pieces::places::place;
+use crate::received::is_link;
 use arrayvec::ArrayVec;
-use tp_book::tokens_of;
+use tp_book::{incoming, tokens_of};
 use tp_law_machine::carries_byte;
 use tp_model::limits::MAX_STEPS;
-use tp_model::{Received, Token, WireEnd};
-use tp_net::{line_of, link_line};
+use tp_model::{Received, Token};
+use tp_net::link_line;
 use tp_node::{NoFrame, Node, Runs};
 
 /// What a node sent in a turn.
@@ -24,16 +25,6 @@ pub(crate) struct Sent {
     /// For the tokens that it took, and in its steps.
     pub(crate) for_tokens: ArrayVec<(u8, Token), 8>,
     pub(crate) in_steps: ArrayVec<(u8, Token), 8>,
-}
-
-/// Whether an end of a wire is that link of that node.
-fn is_link(node: u8, link: u8, end: Option<WireEnd>) -> bool
-    ensures { result ≡ is_link node link end }
-{
-    match end {
-        Some(WireEnd::Link(of, at)) => of == node && at == link,
-        Some(WireEnd::Port(_)) | None => false,
-    }
 }
 
 /// Has a node take a token, if it can, and appends its answer to `out`. Answers whether it could.
@@ -101,10 +92,7 @@ impl Lanes {
         requires { nodes ≤ 2 ^ 32 }
         ensures { result ≡ incoming self.now.wires nodes node link }
     {
-        match self.receiver(link_line(usize::from(node), usize::from(link))) {
-            Some(end) => line_of(nodes, end),
-            None => 0,
-        }
+        incoming(&self.wires, nodes, usize::from(node), usize::from(link))
     }
 
     /// Whether each token is on a line that its link receives.
@@ -114,7 +102,7 @@ impl Lanes {
     {
         for m in tokens {
             let line = self.incoming(nodes, node, m.0);
-            if !is_link(node, m.0, self.receiver(line)) {
+            if !is_link(self.receiver(line), usize::from(node), usize::from(m.0)) {
                 return false;
             }
         }

@@ -1,7 +1,8 @@
 use Rattle.std.proofs.Common.{◌+◌, length, drop, get_or, sym, ap, ◌∙◌, arith}
 use Rattle.std.specs.Prelude.{is_some}
 use Rattle.tp_replay.proofs.Lower.{option_map, length-append, Data, t414, on_link, took_all, takes_ok}
-use Rattle.tp_replay.proofs.TakenAll.{with_answers, next_taken, taken_behind, on_link_few, answers_twice, all_done}
+use Rattle.tp_replay.proofs.TakenAll.{with_answers, next_taken, taken_behind, answers_twice, all_done}
+use Rattle.tp_replay.proofs.TurnOfNode.{at_most_one}
 use Rattle.tp_replay.proofs.received.take_all.Goals as goal
 
 pub take-requires : goal.take-requires
@@ -17,7 +18,7 @@ loop-m-preserved c =
     let did = takes_ok _ _ link c.loop-m.node.live now c.in-Ok.answer c.in-Ok.ensures.takes in
     let B = taken_behind tokens i c.loop-m.node.live (0, Data 0) (now, answer) c.loop-m-test.true c.loop-m.invariant.some did in
     record {
-      few = omega (arith, c.loop-m.invariant.few, ap length c.add_answer.ensures, length-append c.loop-m.answers.items answer, on_link_few link c.in-Ok.answer);
+      few = omega (arith, c.loop-m.invariant.few, ap length c.add_answer.ensures, length-append c.loop-m.answers.items answer, at_most_one link c.in-Ok.answer);
       thawed = c.in-Ok.ensures.kept ∙ c.loop-m.invariant.thawed;
       some = B.rest;
       is =

@@ -2,7 +2,8 @@ use Rattle.std.proofs.Common.{◌≡◌, ◌+◌, ◌*◌, ◌<◌, length, refl
 use Rattle.tp_replay.proofs.Lower.{slice_get_read, Take, receiver, process_at, process, port_took}
 use Rattle.tp_model.specs.declared.wire.WireEnd.TheVariants.{Port}
 use Rattle.tp_replay.specs.HostInside.{host_held}
-use Rattle.tp_replay.proofs.Acts.{port_takes, same_item, there_is}
+use Rattle.tp_replay.proofs.Acts.{port_takes, same_item}
+use Rattle.tp_replay.proofs.Applied.{there_is}
 use Rattle.tp_replay.proofs.AtPorts.{port_at, port_nowhere, port_cannot, port_did, changed_inside}
 use Rattle.tp_replay.proofs.pieces.host_part.HostPart.receive.Goals as goal
 

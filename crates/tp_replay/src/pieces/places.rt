@@ -1,32 +1,10 @@
-//! What is tested before an entry is done.
+//! Which processes a part has, and which node is at an end.
 
-ghost use Rattle.std.specs.Prelude.{◌≡◌, ◌<◌, ◌≤◌, ◌+◌, ◌&&◌, IsTrue, ℕ, List, MatchBool, MatchOption, Some, false, nat_lt, nat_le, slice_get};
-ghost use Rattle.tp_replay.specs.Lower.{Token, Link, MAX_STEPS, is_first};
+ghost use Rattle.std.specs.Prelude.{◌≡◌, ◌<◌, ◌≤◌, ◌+◌, ℕ, MatchBool, MatchOption, Some, false};
+ghost use Rattle.tp_model.specs.declared.wire.WireEnd.TheVariants.{Link};
 ghost use Rattle.tp_replay.specs.Whose.{whose};
 
-use tp_model::limits::MAX_STEPS;
-use tp_model::{Token, WireEnd};
-
-/// Whether a token is at the front of a line, given that front.
-pub(crate) fn is_front(front: Option<Token>, token: Token) -> bool
-    ensures { (line : List Token) → slice_get line 0 ≡ front → result ≡ is_first line token }
-{
-    match (front, token) {
-        (Some(Token::Data(byte)), Token::Data(other)) => byte == other,
-        (Some(Token::Ack), Token::Ack) => true,
-        (Some(Token::Marker), Token::Marker) => true,
-        _ => false,
-    }
-}
-
-/// Whether a run may have `count` steps.
-pub(crate) fn is_count(count: u16) -> bool
-    ensures value { result ≡ (nat_lt 0 count && nat_le count MAX_STEPS) }
-    ensures some { IsTrue result → 0 < count }
-    ensures few { IsTrue result → count ≤ MAX_STEPS }
-{
-    0 < count && count as usize <= MAX_STEPS
-}
+use tp_model::WireEnd;
 
 /// Gives the place of node `number` among `len` neighbours that begin with node `first`; `None` if it is none of them.
 pub(crate) fn place(first: usize, len: usize, number: u8) -> Option<usize>
