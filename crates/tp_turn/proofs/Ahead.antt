@@ -183,10 +183,3 @@ not_of b number other apart (Trim ∷ acts) own = (tt, not_of b number other apa
 pub received_stays : (a b : BookValue) (number : ℕ) (takes : List Received) (acts : List Act) → acted t414 (world_of a) acts ≡ Some (world_of b) → AllByRecursion (IsNotOf (world_of a).live number) acts
     → IsReceived (world_of a).live number takes → IsReceived (world_of b).live number takes
 received_stays a b number takes acts did others R = received_after t414 has_four_links number takes (world_of a) (world_of b) acts did others R
-
--- so it does if the acts are those of one other process
-pub stays_with : (a b : BookValue) → BookKeeps a.state → (number other : ℕ) (takes : List Received) (acts : List Act) → acted t414 (world_of a) acts ≡ Some (world_of b) → other ≢ number
-    → AllByRecursion (λ e. process a.state.start.wires (length a.state.start.nodes) e ≡ other) (entries_among acts) → IsReceived (world_of a).live number takes → IsReceived (world_of b).live number takes
-stays_with a b K number other takes acts did apart own R =
-    received_stays a b number takes acts did
-    (not_of a number other apart acts (subst (λ n. AllByRecursion (λ e. process a.state.start.wires n e ≡ other) (entries_among acts)) (sym (length-agreed a.state K)) own)) R
