@@ -442,7 +442,9 @@ GROUPS = [words.split() for words in (
     "ldl wsub ldnl", "ldl wsub stnl", "ldl add", "ldl sum", "ldl ldl wsub ldnl", "ldl ldl wsub stnl", "ldl adc", "ldc ldc", "ldl ldl",
     "ldc ldl", "ldl ldc bsub lb", "ldl ldc bsub sb", "ldc ldl ldc bsub", "gt cj", "eqc cj", "ldl gt cj", "ldl lb", "ldc stl", "ldl stl",
     "adc stl", "sum stl", "ldc sum", "ldc add", "ldc bsub", "ldl ldnl", "ldl eqc", "ldlp ldc", "ldc ldl gt", "ldl ldl wsub", "ldc rem", "ldc xor", "ldc shr", "ldc and", "ldc mul", "wsub ldnl", "mint ldnlp", "prod ldl sum stl",
-    "ldl ldl sum stl", "adc call", "ldl adc call")]
+    "ldl ldl sum stl", "adc call", "ldl adc call", "ldl ldlp wsub ldnl", "ldl ldlp wsub stnl", "ldl ldl add stl", "ldl ldl diff stl",
+    "ldl ldl gt cj", "ldl ldc and cj", "ldl ldc shr stl", "ldl ldc mul", "ldl ldc prod", "ldl ldc rem", "ldl ldc div", "ldl lb stl", "ldc rem stl",
+    "ldc xor stl", "ldc wsub ldnl", "ldc wsub stnl")]
 NAMES = {name: FUNCTIONS[name] for name in FUNCTIONS if name != "opr"}
 OPERATIONS = dict(
     rev=0x00, lb=0x01, bsub=0x02, endp=0x03, diff=0x04, add=0x05, gcall=0x06, prod=0x08, gt=0x09, wsub=0x0A, sub=0x0C, startp=0x0D,
