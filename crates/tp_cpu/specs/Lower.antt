@@ -8,7 +8,7 @@ pub use Rattle.tp_model.specs.Coding.{Decodes, IsKnown, Spells, code, coded, dec
 pub use Rattle.tp_model.specs.Memory.{byte_at, byte_stored, changed, copied, offset, stored, word_at, word_offset}
 pub use Rattle.tp_model.specs.Outcome.{Halts, Next, Outcome, Receives, Rests, Sends, leaves}
 pub use Rattle.tp_model.specs.Processor.{counted, dispatch_high, dispatch_low, emptied, goto, has_low_priority, interrupt, is_low, joined, jump, link_writes, must_slice, past, queue_writes, queued, rest_of_queue, restore, slice_writes, sliced, started, stop, stopped, with_a, with_regs, with_wptr, without_b, workspace}
-pub use Rattle.tp_model.specs.Registers.{carry, checked, fun_row, op_row, pop, push, register_row, row_div, row_ldiff, row_ldiv, row_lmul, row_lsum, row_rem, row_testerr, row_wcnt, shl, shr}
+pub use Rattle.tp_model.specs.Registers.{binary, carry, checked, error_if, fun_row, op_row, pop, push, register_row, row_div, row_ldiff, row_ldiv, row_lmul, row_lsum, row_rem, row_testerr, row_wcnt, shl, shr}
 pub use Rattle.tp_model.specs.SharedPages.{Kept, LacksFrames, block_ranges, kept_after, kept_behind, word_ranges}
 pub use Rattle.tp_model.specs.Step.{MakesStep, by_row, call, effect, endp, executed, idle, in_state, instruction, lend, local, operate, operation, ret, runp, startp}
 unfoldable pub use Rattle.tp_model.specs.Step.{step_of}
