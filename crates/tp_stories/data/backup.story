@@ -82,23 +82,15 @@ tpnet backup device dangling
 stay
 there nowhere
 there copy.part
-tpnet backup device copy --explain 2>err
-starts err tpnet: CopyExists\n  copy: it is there already\n
-has err remove what is there
-tpnet backup device device --explain 2>err
-starts err tpnet: CopyExists\n  device is the file of the device itself\n
-ends err   Name another path.\n
-tpnet backup device other --explain 2>err
-starts err tpnet: CopyExists\n  other is the file of the device itself\n
-ends err   Name another path.\n
+tpnet backup device copy --explain
+tpnet backup device device --explain
+tpnet backup device other --explain
 # So is what stands where the copy is made.
 remove copy
 text copy.part precious
 keep device copy.part
 tpnet backup device copy
-tpnet backup device copy --explain 2>err
-starts err tpnet: PartExists\n  copy.part: it is there already\n
-has err remove it, and give the same command again
+tpnet backup device copy --explain
 stay
 there copy
 remove copy.part
@@ -107,8 +99,7 @@ tpnet backup device copy
 copy device new.part
 keep new.part
 tpnet backup new.part new
-tpnet backup new.part new --explain 2>err
-starts err tpnet: CopyExists\n  new.part is the file of the device
+tpnet backup new.part new --explain
 stay
 there new
 
@@ -120,9 +111,7 @@ keep device
 tpnet backup device nowhere/copy
 tpnet backup device device/copy
 tpnet backup device ''
-tpnet backup device nowhere/copy --explain 2>err
-starts err tpnet: DeviceFailed\n  nowhere/copy: 
-has err hard links
+tpnet backup device nowhere/copy --explain
 stay
 there nowhere
 
@@ -132,10 +121,7 @@ bring kept/one.dev device
 set device 10 01
 keep device
 tpnet backup device copy
-tpnet backup device copy --explain 2>err
-starts err tpnet: Damaged 0\n
-has err byte 10 is 01 and must be 00
-has err opens now
+tpnet backup device copy --explain
 stay
 bring kept/one.dev device
 set device 512 00
@@ -146,12 +132,9 @@ set device 7 09
 tpnet backup device copy
 set device 0 55
 tpnet backup device copy
-tpnet backup device copy --explain 2>err
-starts err tpnet: NotFormatted\n
-has err doesn't begin with TPNET
+tpnet backup device copy --explain
 tpnet backup nowhere copy
-tpnet backup nowhere copy --explain 2>err
-starts err tpnet: ReadFailed\n  nowhere: 
+tpnet backup nowhere copy --explain
 folder place
 tpnet backup place copy
 there copy
@@ -221,8 +204,7 @@ tpnet backup device copy --new 2>err
 starts err error: 
 tpnet backup device copy --wait-lock 1 2>err
 starts err error: 
-tpnet backup device copy --explain --explain 2>err
-starts err error: 
+tpnet backup device copy --explain --explain
 there copy
 tpnet backup --help >out
 has out \n  CopyExists    COPY is there
@@ -234,8 +216,7 @@ equal out then
 tpnet --help >out
 has out \n  backup 
 # An option of the program's own is none of the command.
-tpnet --explain backup device copy 2>err
-starts err error: 
+tpnet --explain backup device copy
 there copy
 
 story untold

@@ -84,9 +84,7 @@ keep device
 tpnet status device
 tpnet status device --every 1
 tpnet status device --json
-tpnet status device --explain 2>err
-starts err tpnet: Damaged 0\n
-has err byte 10 is 01 and must be 00
+tpnet status device --explain
 stay
 bring kept/one.dev device
 set device 512 00

@@ -50,14 +50,11 @@ tpnet stop device --explain
 text device.stop
 tpnet stop device --explain
 there device.stop
-tpnet stop --explain fresh 2>err
-starts err tpnet: ReadFailed\n  fresh:
-has err   Look at the path, and at your rights to it.\n
+tpnet stop --explain fresh
 folder folder
 tpnet stop --explain folder
 fill text 600 78
-tpnet stop --explain text 2>err
-has err doesn't begin with TPNET
+tpnet stop --explain text
 
 story words_of_stop
 # Words that ask for nothing, and words that ask how to call it.

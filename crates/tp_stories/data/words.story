@@ -256,8 +256,7 @@ empty err
 # A word behind the dashes is a name, but --stream is looked for among all words.
 tpnet stop -- --wait
 tpnet backup -- --explain copy
-tpnet backup --explain -- --explain copy 2>err
-starts err tpnet: ReadFailed\n  --explain: 
+tpnet backup --explain -- --explain copy
 tpnet run -- --stream 2>err
 starts err error: the following required arguments were not provided:\n
 there copy

@@ -6,6 +6,9 @@ use std::io::{Read, Seek, SeekFrom, Write};
 use std::os::unix::fs::FileExt;
 use std::sync::atomic::{AtomicBool, AtomicU64, AtomicUsize, Ordering};
 
+/// The system's number for a disk without room, by which a call fails.
+const NO_SPACE: i32 = 28;
+
 /// What becomes of the calls that a command makes. Those on files whose path ends with `device` count; or those on all files, and then also those
 /// that open, link and remove a file and check what is at a path.
 #[derive(Clone, Copy)]
@@ -171,7 +174,7 @@ impl Faults {
             self.left.store(u64::MAX, Ordering::SeqCst);
         }
         self.has_failed.store(true, Ordering::SeqCst);
-        Err(io::Error::from(io::ErrorKind::StorageFull))
+        Err(io::Error::from_raw_os_error(NO_SPACE))
     }
 }
 
