@@ -115,6 +115,9 @@ image a.img 11 24 F2 54 41 F7 11 24 F2 41 FB 60 03
 tpnet format device net.txt . 16384
 tpnet run device --turns=4 --out 0=x
 tpnet run device --stop-on-halt
+tpnet show device --stream
+# A dash is a standard stream as an end alone; as a stop file it is a name.
+tpnet run device --stream --turns 0 --out 0=- --stop-file -
 tpnet compact device --wait-lock=-1
 tpnet run /dev/null --turns=4
 tpnet show /dev/null
