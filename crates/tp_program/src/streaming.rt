@@ -13,7 +13,7 @@ use std::sync::Wait;
 use std::thread;
 use std::thread::Threads;
 use tp_disk::Disk;
-use tp_stream::{Ended, Ending, Sink, Source, StreamFault, Streams, Task, stream};
+use tp_stream::{Ended, Ending, Sink, Source, StreamFault, Streams, Taker, Task, stream};
 use tp_stream_files::{
     AnySink, AnySource, EndFault, Feed, Onlooker, Output, OutsideFile, StandardStreams, Teller,
     open_ends, say_end,
@@ -216,7 +216,7 @@ fn say_done<S: Sink, E: Write>(
 fn stream_opened<
     R: Files + AllocGlobal + Threads + Wait + Sync,
     D: Disk + Drop + Send,
-    S: Sink,
+    S: Taker<D>,
     I: Source,
     E: Write,
     W: Onlooker,

@@ -70,6 +70,17 @@ book_stands start w b A stored =
       left = λ p. left_still (port_in b p);
     }
 
+-- they still do once some outputs were confirmed
+pub stands_left : (start : Network NodeState) (w : World NodeState) (b c : BookValue) → PortsStand start w b → AreLeft b c → PortsStand start w c
+stands_left start w b c S left = record {
+  number = S.number;
+  few = S.few;
+  all = S.all;
+  state = S.state;
+  leads = S.leads;
+  left = λ p. left_on (port_or_fresh S.state p) (port_in b p) (port_in c p) (S.left p) (left p);
+}
+
 -- all of them do, to its ports as a stream ends
 pub ends_put : (start : Network NodeState) (w : World NodeState) (b : BookValue) → IsAheadOf start w b → next_in_book b ≤ w.mark → (why : Ending) (outputs : List OutputValue)
     → are_put why (port_in b) outputs ≡ true → EndsPut start w.journal why outputs
@@ -110,6 +121,15 @@ shows_left start w b c mark port from S left up =
       unconfirmed = let low = L.base in omega (arith, low, up);
       are = shown_is (port_or_fresh S.state port) (port_in c port) (shown_of c port mark) from L up;
     }
+
+-- exactly those below the mark do
+pub shown_at : (start : Network NodeState) (w : World NodeState) (b : BookValue) (port from : ℕ) → PortsStand start w b → (port_in b port).out_base ≤ from
+    → LeadsToBytes start w.journal w.mark port from (shown_from b port w.mark from)
+shown_at start w b port from S up =
+    let few = S.few in
+    let all = S.all in
+    let number : S.number ≡ w.mark = omega (arith, few, all) in
+    subst (λ n. LeadsToBytes start w.journal n port from (shown_from b port w.mark from)) number (shows_left start w b b w.mark port from S (all_left b) up)
 
 -- ## Outputs one after the other
 

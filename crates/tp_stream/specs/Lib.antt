@@ -13,6 +13,7 @@ pub mod Quiet
 pub mod Rooms
 pub mod Rounds
 pub mod Served
+pub mod Shown
 pub mod Standing
 pub mod Steps
 pub mod Streamed

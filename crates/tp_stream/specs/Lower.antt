@@ -68,7 +68,7 @@ pub use Rattle.tp_flush.specs.declared.fault.FlushFault.{FlushFault}
 pub use Rattle.tp_stream_files.specs.Held.{HasAtMost, HasLength, HasPut, HasReach, KeepsFront, Reaches}
 pub use Rattle.tp_stream_files.specs.Inputs.{AreFrom, GivenInput, HasAtLeast, IsLength, given_input, is_over}
 pub use Rattle.tp_stream_files.specs.Notices.{HasCome, InputBegins, NodeStopped, Notice, Noticed, OutputBegins}
-pub use Rattle.tp_stream_files.specs.Outputs.{Given, OutputValue, WasPutSafely, given_of}
+pub use Rattle.tp_stream_files.specs.Outputs.{Given, IsOfPort, OutputValue, WasPutSafely, given_of}
 pub use Rattle.tp_stream_files.specs.declared.ending.Ended.{Ended}
 pub use Rattle.tp_stream_files.specs.declared.ending.Ending.{Ending}
 pub use Rattle.tp_stream_files.specs.declared.ending.Ending.TheVariants.{Gone, Halted, Quiet, Stopped, Stopped as AskedTo, Turns, Turns as BoundReached}

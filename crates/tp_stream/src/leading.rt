@@ -16,6 +16,7 @@ use crate::ground::Ground;
 use crate::lent::{Lent, take_back};
 use crate::serving::{Going, laps};
 use crate::shift::Shift;
+use crate::taker::Taker;
 use std::sync::Wait;
 use std::thread::Threads;
 use tp_disk::Disk;
@@ -46,7 +47,7 @@ impl<
     'w,
     J: Naming,
     D: Disk,
-    S: Sink,
+    S: Taker<D>,
     I: Source,
     L: Listener,
     P: Stop,
@@ -104,7 +105,7 @@ impl<
 pub(crate) fn lead<
     J: Naming + Send + Sync,
     D: Disk + Send + Drop,
-    S: Sink,
+    S: Taker<D>,
     I: Source,
     L: Listener,
     P: Stop,

@@ -24,14 +24,16 @@ mod shift;
 mod standing;
 mod stopping;
 mod streaming;
+mod taker;
 mod task;
 mod telling;
 mod turns;
 
 pub use fault::StreamFault;
 pub use streaming::stream;
+pub use taker::Taker;
 pub use task::Task;
 pub use tp_stream_files::{
-    Ended, Ending, Input, Listener, MemSink, Noted, Output, Progress, Sink, SinkFault, Source,
-    SourceFailed, Stop, Stopped, Streams,
+    Ended, Ending, Input, Listener, MemSink, Noted, Output, Progress, PutAt, Sink, SinkFault,
+    Source, SourceFailed, Stop, Stopped, Streams,
 };

@@ -1,16 +1,18 @@
 //! Steps of a port's output: it is put at its position, made safe, and then confirmed.
 
 ghost use Rattle.std.specs.Prelude.{◌≡◌, ◌<◌, ◌≤◌, ◌+◌, ◌++◌, ℕ, false, length, Err, IfOk, OnOk, IfErr, OnErr};
-ghost use Rattle.tp_stream.specs.Lower.{after_confirm, port_in, shown_from, shown_upto_of, confirm_entries, is_journal_full, HoldNoted, IsFor, HasPut, KeepsFront, WasPutSafely, given_of};
+ghost use Rattle.tp_stream.specs.Lower.{AreTrue, Began, after_confirm, port_in, shown_from, shown_upto_of, confirm_entries, is_journal_full, HoldNoted, IsFor, HasPut, KeepsFront, WasPutSafely, given_of};
 ghost use Rattle.tp_stream.specs.FailedEnds.{NamesOutput, StepNames};
 ghost use Rattle.tp_stream.specs.Standing.{MayBegin, Refuses, from_of, put_out, port_standing};
 ghost use Rattle.tp_stream.specs.Streamed.{CameBetween, OtherThanFull};
 ghost use Rattle.tp_stream.specs.Outcomes.{ConfirmsOtherwise, IsStepFault, StepsOtherwise, confirm_fault_of, step_fault_of};
-ghost use Rattle.tp_stream.specs.Steps.{AreLeft, IsSetOut, PutsShown};
+ghost use Rattle.tp_stream.specs.Shown.{AreShownAt};
+ghost use Rattle.tp_stream.specs.Steps.{AreLeft, IsSetOut, PortsStand, PutsShown};
 ghost use Rattle.tp_stream.specs.declared.output.StepFault.TheVariants.{Gone as TakerGone};
 
 use crate::fault::StreamFault;
 use crate::standing::Standing;
+use crate::taker::{Taker, put_safe};
 use tp_book::{Book, Receipt};
 use tp_disk::Disk;
 use tp_flush::Flusher;
@@ -111,15 +113,34 @@ pub(crate) fn begin<S: Sink>(
     set_out(output, stand)
 }
 
+/// Puts `bytes` after those that were put, up to `upto`, and makes them safe.
+fn put_upto<J: Naming, D: Disk, S: Taker<D>>(
+    output: &mut Output<S>,
+    flusher: &Flusher<J, D>,
+    upto: u64,
+    bytes: &[u8],
+) -> Result<(), SinkFault>
+    requires upto { upto ≡ output.old.next + length bytes.now }
+    requires shown { AreShownAt J.formatted J.before flusher.now output.old.port output.old.next bytes.now }
+    ensures put { OnOk result (WasPutSafely bytes.now output.old output.new) }
+    ensures front { KeepsFront output.old.next output.old.held output.new.held }
+    ensures failed { OnErr result (output.new ≡ record output.old { held = output.new.held }) }
+{
+    put_safe(flusher, &mut output.sink, output.next, bytes)?;
+    output.next = upto;
+    Ok(())
+}
+
 /// Puts, at their positions, all outputs that the flusher's mark shows after those that were put, and makes them safe. If that fails, the sink's
 /// bytes before them are as they were.
 #[tactic(auto, using(tp_stream_files::proofs::StreamEndsSinks::front_stays))]
-fn put_shown<J: Naming, D: Disk, S: Sink>(
+fn put_shown<J: Naming, D: Disk, S: Taker<D>>(
     output: &mut Output<S>,
     book: &Book,
     flusher: &Flusher<J, D>,
 ) -> Result<(), StepFault>
     requires there { output.old.port < length book.now.state.ports }
+    requires stands { AreTrue flusher.now.reads → Began J.formatted J.before flusher.now.opened → PortsStand J.formatted flusher.now.world book.now }
     ensures put { OnOk result (WasPutSafely (shown_from book.now output.old.port flusher.now.world.mark output.old.next) output.old output.new) }
     ensures shown { OnOk result (output.new.next ≡ shown_upto_of book.now output.old.port flusher.now.world.mark) }
     ensures front { KeepsFront output.old.next output.old.held output.new.held }
@@ -137,7 +158,7 @@ fn put_shown<J: Naming, D: Disk, S: Sink>(
         return Err(step_fault(SinkFault::Failed, port));
     }
     let bytes = book.shown(port, mark, from);
-    match output.put_upto(upto, bytes) {
+    match put_upto(output, flusher, upto, bytes) {
         Ok(()) => Ok(()),
         Err(fault) => Err(step_fault(fault, port)),
     }
@@ -183,7 +204,7 @@ fn confirm_put<J: Naming, D: Disk, S: Sink>(
 /// Makes a step of an output, under the book's lock. It puts what the flusher's mark shows and wasn't put yet, makes it safe, and confirms it; `seat`
 /// gets the confirm's slip. So the flusher has stored the entries that put out what it puts. If putting or making safe fails, or whoever takes the
 /// output has gone, nothing is confirmed. However it ends, it has put all that the mark shows, or nothing.
-pub(crate) fn step<J: Naming, D: Disk, S: Sink>(
+pub(crate) fn step<J: Naming, D: Disk, S: Taker<D>>(
     output: &mut Output<S>,
     held: &mut Locked<J>,
     seat: &mut Seat<J>,
@@ -191,6 +212,7 @@ pub(crate) fn step<J: Naming, D: Disk, S: Sink>(
     flusher: &Flusher<J, D>,
 ) -> Result<Receipt, StepFault>
     requires there { output.old.port < length held.old.book.state.ports }
+    requires stands { AreTrue flusher.now.reads → Began J.formatted J.before flusher.now.opened → PortsStand J.formatted flusher.now.world held.old.book }
     ensures put { OnOk result (output.new.next ≡ output.old.next + length (shown_from held.old.book output.old.port flusher.now.world.mark output.old.next)) }
     ensures bytes { OnOk result (HasPut output.old.next (shown_from held.old.book output.old.port flusher.now.world.mark output.old.next) output.old.held output.new.held) }
     ensures shown { OnOk result (output.new.next ≡ shown_upto_of held.old.book output.old.port flusher.now.world.mark) }

@@ -8,19 +8,20 @@ ghost use Rattle.tp_stream.specs.Offered.{Offered};
 ghost use Rattle.tp_stream.specs.Outcomes.{AreTakersThere, StepCameTo, pumped_then};
 ghost use Rattle.tp_stream.specs.Put.{EachWith};
 ghost use Rattle.tp_stream.specs.Rooms.{IsConfirmed, UnreservedBook, free_of, has_room_for};
-ghost use Rattle.tp_stream.specs.Steps.{AllStepped, AreLeft, PutsLeft, PutsShown};
+ghost use Rattle.tp_stream.specs.Steps.{AllStepped, AreLeft, PortsStand, PutsLeft, PutsShown};
 ghost use Rattle.tp_stream.specs.Streamed.{CameBetween, OtherThanFull};
 ghost use Rattle.tp_stream.specs.declared.pumping.Pumped.TheVariants.{Nothing, Moved, Gone};
 
 use crate::fault::StreamFault;
 use crate::output::StepFault;
 use crate::pace::Pace;
+use crate::taker::Taker;
 use std::sync::Wait;
 use tp_disk::Disk;
 use tp_flush::Flusher;
 use tp_model::limits::MAX_HELD;
 use tp_shared::{HostKey, Locked, Naming, Seat, Shared};
-use tp_stream_files::{Input, Output, Sink, Source, Streams};
+use tp_stream_files::{Input, Output, Source, Streams};
 
 /// How many milliseconds the stream waits for input before it checks again whether it is asked to stop, or tells how far it has come.
 const REST: u64 = 20;
@@ -78,13 +79,14 @@ pub(crate) fn can_confirm<J: Naming, R: Wait>(rt: &R, shared: &Shared<J>, pace: 
 }
 
 /// Makes a step of a port's output, under the book's lock. It puts what the flusher's mark shows.
-fn step_output<J: Naming, D: Disk, S: Sink>(
+fn step_output<J: Naming, D: Disk, S: Taker<D>>(
     held: &mut Locked<J>,
     seat: &mut Seat<J>,
     host: &mut HostKey<J>,
     flusher: &Flusher<J, D>,
     output: &mut Output<S>,
 ) -> Result<Pumped, StreamFault>
+    requires { AreTrue flusher.now.reads → Began J.formatted J.before flusher.now.opened → PortsStand J.formatted flusher.now.world held.old.book }
     ensures left { AreLeft held.old.book held.new.book }
     ensures puts { PutsShown held.old.book flusher.now.world.mark output.old output.new }
     ensures begun { IfErr result CameBetween }
@@ -108,13 +110,14 @@ fn step_output<J: Naming, D: Disk, S: Sink>(
 
 /// Makes a step of each output, under one hold of the book's lock. It goes on after an output whose taker has gone. Each step puts what the flusher's
 /// mark shows in the book, after the confirms before it. If the journal has room for one confirm of each output, none fails for lack of it.
-fn step_all<J: Naming, D: Disk, S: Sink>(
+fn step_all<J: Naming, D: Disk, S: Taker<D>>(
     held: &mut Locked<J>,
     seat: &mut Seat<J>,
     host: &mut HostKey<J>,
     flusher: &Flusher<J, D>,
     outputs: &mut [Output<S>],
 ) -> Result<Pumped, StreamFault>
+    requires { AreTrue flusher.now.reads → Began J.formatted J.before flusher.now.opened → PortsStand J.formatted flusher.now.world held.old.book }
     ensures puts { EachWith (PutsLeft held.old.book flusher.now.world.mark) outputs.old outputs.new }
     ensures unfed { HandsNoBytes host.old host.new }
     ensures begun { IfErr result CameBetween }
@@ -132,7 +135,7 @@ fn step_all<J: Naming, D: Disk, S: Sink>(
 /// which the flusher's journal leads. If it hasn't stored all, nothing is put, and the answer is `Moved`. Right after the flusher's turn it has,
 /// since no other thread makes entries.
 #[tactic(auto, using(crate::proofs::Stepping::all_still))]
-fn step_settled<J: Naming, D: Disk, S: Sink>(
+fn step_settled<J: Naming, D: Disk, S: Taker<D>>(
     held: &mut Locked<J>,
     seat: &mut Seat<J>,
     host: &mut HostKey<J>,
@@ -157,7 +160,7 @@ fn step_settled<J: Naming, D: Disk, S: Sink>(
 }
 
 /// Takes the book's lock, and makes a step of each output under it.
-fn step_outputs<J: Naming, D: Disk, S: Sink, R: Wait>(
+fn step_outputs<J: Naming, D: Disk, S: Taker<D>, R: Wait>(
     rt: &R,
     shared: &Shared<J>,
     seat: &mut Seat<J>,
@@ -356,7 +359,7 @@ fn pump_inputs<J: Naming, I: Source, R: Wait>(
 /// Makes a step of each output, and then of each input. Outputs are put and confirmed up to the flusher's mark: they are outputs in the network to
 /// which its journal leads. If nothing has moved and `may_wait` is true, it waits for input that hasn't come yet. If whoever takes an output has
 /// gone, no port takes bytes. `seat` gets the slips of what was confirmed and handed in.
-pub(crate) fn pump<J: Naming, D: Disk, S: Sink, I: Source, R: Wait>(
+pub(crate) fn pump<J: Naming, D: Disk, S: Taker<D>, I: Source, R: Wait>(
     rt: &R,
     shared: &Shared<J>,
     pace: Pace,

@@ -27,6 +27,7 @@ use crate::rounds::round;
 use crate::settling::settle;
 use crate::shift::Shift;
 use crate::stopping::{find_halted, tell_stopped};
+use crate::taker::Taker;
 use crate::telling::tell;
 use crate::turns::Turns;
 use std::sync::Wait;
@@ -35,7 +36,7 @@ use tp_disk::Disk;
 use tp_flush::Flusher;
 use tp_node::Runs;
 use tp_shared::{HostKey, Naming, Seat};
-use tp_stream_files::{Ended, Ending, Input, Listener, Sink, Source, Stop, Streams};
+use tp_stream_files::{Ended, Ending, Input, Listener, Source, Stop, Streams};
 
 /// How far a stream is: its turns, and the known runs of the calling thread (`runs`). `seat` has the slips of what the turns journalled, `steps` of
 /// what steps of outputs and inputs did. `host` is the right to hand in bytes and to confirm outputs, and shows all that was.
@@ -216,7 +217,7 @@ fn rest_or_turn<J: Naming, I: Source, R: Wait>(
 /// for input. If the journal has no room for the confirms, it first brings a snapshot to its end. Answers why the stream is over, and then makes no
 /// turns; `None` if it goes on.
 #[tactic(auto, using(crate::proofs::Stepping::all_still))]
-fn go_on<J: Naming, D: Disk, S: Sink, I: Source, P: Stop, R: Wait>(
+fn go_on<J: Naming, D: Disk, S: Taker<D>, I: Source, P: Stop, R: Wait>(
     ground: Ground<'_, J, R>,
     going: &mut Going<J>,
     flusher: &mut Flusher<J, D>,
@@ -277,7 +278,7 @@ fn go_on<J: Naming, D: Disk, S: Sink, I: Source, P: Stop, R: Wait>(
 
 /// Flushes, tells the listener how far the stream has come, and does all that comes before the next flush.
 #[tactic(auto, using(crate::proofs::Stepping::all_still))]
-fn cycle<J: Naming, D: Disk, S: Sink, I: Source, L: Listener, P: Stop, R: Wait>(
+fn cycle<J: Naming, D: Disk, S: Taker<D>, I: Source, L: Listener, P: Stop, R: Wait>(
     ground: Ground<'_, J, R>,
     going: &mut Going<J>,
     flusher: &mut Flusher<J, D>,
@@ -312,7 +313,7 @@ fn cycle<J: Naming, D: Disk, S: Sink, I: Source, L: Listener, P: Stop, R: Wait>(
 
 /// Makes a cycle. After that it makes a shift, with the flusher's turns beside it, if the stream isn't over, much is left to do, and all workers have
 /// come.
-fn lap<J: Naming, D: Disk, S: Sink, I: Source, L: Listener, P: Stop, R: Wait>(
+fn lap<J: Naming, D: Disk, S: Taker<D>, I: Source, L: Listener, P: Stop, R: Wait>(
     ground: Ground<'_, J, R>,
     shift: &Shift,
     seat: &mut Option<tp_work::Seat<J>>,
@@ -350,7 +351,7 @@ fn lap<J: Naming, D: Disk, S: Sink, I: Source, L: Listener, P: Stop, R: Wait>(
 
 /// Makes laps until the stream is over or one fails.
 #[inline(never)]
-pub(crate) fn laps<J: Naming, D: Disk, S: Sink, I: Source, L: Listener, P: Stop, R: Wait>(
+pub(crate) fn laps<J: Naming, D: Disk, S: Taker<D>, I: Source, L: Listener, P: Stop, R: Wait>(
     ground: Ground<'_, J, R>,
     shift: &Shift,
     seat: &mut Option<tp_work::Seat<J>>,
@@ -387,7 +388,7 @@ pub(crate) fn laps<J: Naming, D: Disk, S: Sink, I: Source, L: Listener, P: Stop,
 pub(crate) fn serve<
     J: Naming + Send + Sync,
     D: Disk + Send + Drop,
-    S: Sink,
+    S: Taker<D>,
     I: Source,
     L: Listener,
     P: Stop,

@@ -22,6 +22,7 @@ use crate::opening::parts_of;
 use crate::pace::Pace;
 use crate::rooms::Rooms;
 use crate::serving::{Going, serve};
+use crate::taker::Taker;
 use crate::task::Task;
 use std::alloc::Global;
 use std::marker::Brand;
@@ -36,7 +37,7 @@ use tp_node::Runs;
 use tp_ready::Raiser;
 use tp_recover::{Opened, open};
 use tp_shared::{Naming, NoGate, Parts};
-use tp_stream_files::{Ended, Listener, Sink, Source, Stop, Streams};
+use tp_stream_files::{Ended, Listener, Source, Stop, Streams};
 use tp_turn::{TAKES, TURN_ENTRIES};
 use tp_work::{MAX_WORKERS, Net};
 
@@ -87,7 +88,7 @@ struct Device<D: Disk> {
 fn stream_parts<
     J: Naming + Send + Sync,
     D: Disk + Send + Drop,
-    S: Sink,
+    S: Taker<D>,
     I: Source,
     L: Listener,
     P: Stop,
@@ -181,7 +182,7 @@ fn stream_parts<
 #[inline(never)]
 pub fn stream<
     D: Disk + Send + Drop,
-    S: Sink,
+    S: Taker<D>,
     I: Source,
     L: Listener,
     P: Stop,

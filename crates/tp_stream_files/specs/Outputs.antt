@@ -1,5 +1,5 @@
 -- A port's output, and the sink that takes it.
-use Rattle.std.specs.Prelude.{◌≡◌, ℕ, ◌+◌, List, length, Option}
+use Rattle.std.specs.Prelude.{◌≡◌, ℕ, ◌+◌, List, length, Option, Some, None}
 use Rattle.tp_stream_files.specs.Held.{HeldBytes, HasPut}
 
 -- An output:
@@ -25,6 +25,11 @@ pub record Given : Type 0 where
 
 abbrev pub given_of : OutputValue → Given
 given_of o = record { port = o.port; have = o.have; held = o.held }
+
+-- A sink holds this port's output, if it says whose.
+abbrev pub IsOfPort : ℕ → Option ℕ → Type 0
+IsOfPort port None = Unit {0}
+IsOfPort port (Some p) = p ≡ port
 
 -- Bytes were put after those before, and are safe. Nothing was confirmed.
 pub record WasPutSafely (bytes : List ℕ) (old new : OutputValue) : Type 0 where

@@ -43,7 +43,7 @@ pub use output::Output;
 pub use outside::{Outside, OutsideFile};
 pub use pipes::Pipe;
 pub use same::{FileNumbers, is_one_file, is_output_said_over, is_standard_file, numbers_in};
-pub use sink::{Sink, SinkFault};
+pub use sink::{PutAt, Sink, SinkFault};
 pub use sinks::{AnySink, FileSink};
 pub use source::{Source, SourceFailed};
 pub use sources::AnySource;

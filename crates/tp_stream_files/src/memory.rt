@@ -4,7 +4,7 @@ ghost use Rattle.std.specs.Prelude.{◌≡◌, ◌≤◌, ℕ, List, [], ◌++�
 ghost use Rattle.tp_stream_files.specs.Failing.{calls_behind, goes_on};
 ghost use Rattle.tp_stream_files.specs.Held.{HasLength, HasPut, HasReach, IsSafe, KeepsBytes, KeepsFront, Reaches};
 
-use crate::sink::{Sink, SinkFault};
+use crate::sink::{PutAt, Sink, SinkFault};
 use std::alloc::Global;
 
 /// Bytes in memory. Putting bytes drops those after them.
@@ -101,26 +101,11 @@ impl Sink for MemSink {
         Some(self.bytes.len() as u64)
     }
 
-    fn put(&mut self, at: u64, bytes: &[u8]) -> Result<(), SinkFault>
-        requires { Reaches at (Some (record { bytes = self.old.bytes.items; safe = self.old.safe })) }
-        ensures put { OnOk result (HasPut at bytes.now (Some (record { bytes = self.old.bytes.items; safe = self.old.safe })) (Some (record { bytes = self.new.bytes.items; safe = self.new.safe }))) }
-        ensures front { KeepsFront at (Some (record { bytes = self.old.bytes.items; safe = self.old.safe })) (Some (record { bytes = self.new.bytes.items; safe = self.new.safe })) }
-        ensures path { let none : Option (List ℕ) = None in none ≡ none }
-        ensures goes { OnOk result (goes_on self.old.calls ≡ true) }
-        ensures fault { IfErr result (λ fault. fault ≡ SinkFault.Failed) }
-        ensures left { self.new.calls ≡ calls_behind self.old.calls }
-    {
-        if self.goes() {
-            return self.put_behind(at, bytes);
-        }
-        let _part = self.put_behind(at, &bytes[..bytes.len() / 2]);
-        Err(SinkFault::Failed)
-    }
-
     fn settle(&mut self) -> Result<(), SinkFault>
         ensures safe { OnOk result (IsSafe (Some (record { bytes = self.new.bytes.items; safe = self.new.safe }))) }
         ensures bytes { KeepsBytes (Some (record { bytes = self.old.bytes.items; safe = self.old.safe })) (Some (record { bytes = self.new.bytes.items; safe = self.new.safe })) }
         ensures path { let none : Option (List ℕ) = None in none ≡ none }
+        ensures port { let none : Option ℕ = None in none ≡ none }
         ensures goes { is_ok result ≡ goes_on self.old.calls }
         ensures fault { IfErr result (λ fault. fault ≡ SinkFault.Failed) }
         ensures left { self.new.calls ≡ calls_behind self.old.calls }
@@ -130,5 +115,24 @@ impl Sink for MemSink {
         }
         self.safe = self.safe.max(self.bytes.len() as u64);
         Ok(())
+    }
+}
+
+impl PutAt for MemSink {
+    fn put(&mut self, at: u64, bytes: &[u8]) -> Result<(), SinkFault>
+        requires { Reaches at (Some (record { bytes = self.old.bytes.items; safe = self.old.safe })) }
+        ensures put { OnOk result (HasPut at bytes.now (Some (record { bytes = self.old.bytes.items; safe = self.old.safe })) (Some (record { bytes = self.new.bytes.items; safe = self.new.safe }))) }
+        ensures front { KeepsFront at (Some (record { bytes = self.old.bytes.items; safe = self.old.safe })) (Some (record { bytes = self.new.bytes.items; safe = self.new.safe })) }
+        ensures path { let none : Option (List ℕ) = None in none ≡ none }
+        ensures port { let none : Option ℕ = None in none ≡ none }
+        ensures goes { OnOk result (goes_on self.old.calls ≡ true) }
+        ensures fault { IfErr result (λ fault. fault ≡ SinkFault.Failed) }
+        ensures left { self.new.calls ≡ calls_behind self.old.calls }
+    {
+        if self.goes() {
+            return self.put_behind(at, bytes);
+        }
+        let _part = self.put_behind(at, &bytes[..bytes.len() / 2]);
+        Err(SinkFault::Failed)
     }
 }

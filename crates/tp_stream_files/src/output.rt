@@ -1,10 +1,10 @@
 //! A port's output, which is put at its positions and made safe.
 
-ghost use Rattle.std.specs.Prelude.{◌≡◌, ◌<◌, ◌≤◌, ◌+◌, length, true, is_ok, Some, IfSome, IfNone, OnOk, OnErr};
-ghost use Rattle.tp_stream_files.specs.Held.{HasAtMost, HasLength, HasPut, HasReach, KeepsFront, Reaches};
-ghost use Rattle.tp_stream_files.specs.Outputs.{WasPutSafely};
+ghost use Rattle.std.specs.Prelude.{◌≡◌, ◌<◌, ◌≤◌, Some, IfSome, IfNone};
+ghost use Rattle.tp_stream_files.specs.Held.{HasAtMost, HasLength, HasReach, Reaches};
+ghost use Rattle.tp_stream_files.specs.Outputs.{IsOfPort};
 
-use crate::sink::{Sink, SinkFault};
+use crate::sink::Sink;
 use std::marker::Model;
 
 /// A port's output and its sink. It is never confirmed further than it was put and is safe.
@@ -13,39 +13,20 @@ pub struct Output<S: Sink> {
     port: u8,
     have: Option<u64>,
     confirmed: u64,
-    next: u64,
-    sink: S,
+    pub next: u64,
+    pub sink: S,
 }
 
 impl<S: Sink> Model for Output<S> {
     ghost use Rattle.std.specs.Prelude.{◌≤◌};
     ghost use Rattle.tp_stream_files.specs.Held.{Reaches};
-    ghost use Rattle.tp_stream_files.specs.Outputs.{OutputValue};
+    ghost use Rattle.tp_stream_files.specs.Outputs.{IsOfPort, OutputValue};
 
     ghost Value = { OutputValue };
 
     ghost view = { λ o. record { port = o.port; have = o.have; path = S.path o.sink; confirmed = o.confirmed; next = o.next; held = S.held o.sink } };
 
-    ghost invariant = { λ o. (o.confirmed ≤ o.next) × Reaches o.next (S.held o.sink) };
-}
-
-/// Puts bytes and makes them safe. If there are none, it makes no call.
-#[tactic(auto, using(crate::proofs::StreamEndsSinks::none_put, crate::proofs::StreamEndsSinks::none_reaches, crate::proofs::StreamEndsSinks::front_stays))]
-fn put_safe<S: Sink>(sink: &mut S, at: u64, bytes: &[u8]) -> Result<(), SinkFault>
-    requires { Reaches at (S.held sink.old) }
-    ensures put { OnOk result (HasPut at bytes.now (S.held sink.old) (S.held sink.new)) }
-    ensures reach { OnOk result (Reaches (at + length bytes.now) (S.held sink.new)) }
-    ensures front { KeepsFront at (S.held sink.old) (S.held sink.new) }
-    ensures path { S.path sink.new ≡ S.path sink.old }
-    ensures none { length bytes.now ≡ 0 → (is_ok result ≡ true) × (sink.new ≡ sink.old) }
-{
-    if bytes.is_empty() {
-        return Ok(());
-    }
-    match sink.put(at, bytes) {
-        Ok(()) => sink.settle(),
-        Err(failed) => Err(failed),
-    }
+    ghost invariant = { λ o. (o.confirmed ≤ o.next) × Reaches o.next (S.held o.sink) × IsOfPort o.port (S.port o.sink) };
 }
 
 /// How many bytes a sink has, if that is more than `upto`; else `None`.
@@ -64,6 +45,7 @@ impl<S: Sink> Output<S> {
     /// Makes the output of the port `port` into a sink. `have` is the position up to which the sink's reader says that it has the output; `None`
     /// stands for that up to which it is confirmed.
     pub fn new(port: u8, have: Option<u64>, sink: S) -> Output<S>
+        requires { IsOfPort port (S.port sink) }
         ensures { result ≡ record { port = port; have = have; path = S.path sink; confirmed = 0; next = 0; held = S.held sink } }
     {
         Output {
@@ -144,18 +126,6 @@ impl<S: Sink> Output<S> {
     {
         self.confirmed = confirmed;
         self.next = next;
-    }
-
-    /// Puts `bytes` after those that were put, up to `upto`, and makes them safe.
-    pub fn put_upto(&mut self, upto: u64, bytes: &[u8]) -> Result<(), SinkFault>
-        requires { upto ≡ self.old.next + length bytes.now }
-        ensures put { OnOk result (WasPutSafely bytes.now self.old self.new) }
-        ensures front { KeepsFront self.old.next self.old.held self.new.held }
-        ensures failed { OnErr result (self.new ≡ record self.old { held = self.new.held }) }
-    {
-        put_safe(&mut self.sink, self.next, bytes)?;
-        self.next = upto;
-        Ok(())
     }
 
     /// Notes that all that was put is confirmed.

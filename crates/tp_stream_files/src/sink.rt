@@ -12,13 +12,16 @@ pub enum SinkFault {
     Gone,
 }
 
-/// Takes a port's output: byte number q of the port has position q.
+/// Holds a port's output: byte number q of the port has position q.
 pub trait Sink {
     /// What the sink holds, if that is known.
     ghost held: { Self → Option HeldBytes } = { λ _. None };
 
     /// The path at which its file was opened, if it is a file's.
     ghost path: { Self → Option (List ℕ) } = { λ _. None };
+
+    /// The port whose output it holds, if it says that.
+    ghost port: { Self → Option ℕ } = { λ _. None };
 
     /// Up to which position it can be put: its bytes before that exist, and are safe.
     fn reach(&self) -> u64
@@ -29,16 +32,21 @@ pub trait Sink {
     fn length(&self) -> Option<u64>
         ensures { HasLength result (held self.now) };
 
-    /// Puts bytes at position `at`, over what is there. Even if that fails, the bytes before that position are as they were.
-    fn put(&mut self, at: u64, bytes: &[u8]) -> Result<(), SinkFault>
-        requires { Reaches at (held self.old) }
-        ensures put { OnOk result (HasPut at bytes.now (held self.old) (held self.new)) }
-        ensures front { KeepsFront at (held self.old) (held self.new) }
-        ensures path { path self.new ≡ path self.old };
-
     /// Makes all that was put safe, so that a crash leaves it.
     fn settle(&mut self) -> Result<(), SinkFault>
         ensures safe { OnOk result (IsSafe (held self.new)) }
         ensures bytes { KeepsBytes (held self.old) (held self.new) }
-        ensures path { path self.new ≡ path self.old };
+        ensures path { path self.new ≡ path self.old }
+        ensures port { port self.new ≡ port self.old };
+}
+
+/// A sink that takes any bytes. A stream doesn't know its sinks as such: what it puts has to be shown.
+pub trait PutAt: Sink {
+    /// Puts bytes at position `at`, over what is there. Even if that fails, the bytes before that position are as they were.
+    fn put(&mut self, at: u64, bytes: &[u8]) -> Result<(), SinkFault>
+        requires { Reaches at (Self.held self.old) }
+        ensures put { OnOk result (HasPut at bytes.now (Self.held self.old) (Self.held self.new)) }
+        ensures front { KeepsFront at (Self.held self.old) (Self.held self.new) }
+        ensures path { Self.path self.new ≡ Self.path self.old }
+        ensures port { Self.port self.new ≡ Self.port self.old };
 }

@@ -1,6 +1,6 @@
 //! The sinks of the program: a file, standard output, or nothing.
 
-ghost use Rattle.std.specs.Prelude.{◌≡◌, ◌↔◌, ◌++◌, ◌∷◌, [], true, Err, None, length, is_ok, IfErr, IfOk, OnOk};
+ghost use Rattle.std.specs.Prelude.{◌≡◌, ◌↔◌, ◌++◌, ◌∷◌, ℕ, [], true, Err, Option, None, length, is_ok, IfErr, IfOk, OnOk};
 ghost use Rattle.std.specs.IoError.{error_kind};
 ghost use Rattle.tp_stream_files.specs.Held.{HasLength, HasPut, HasReach, IsSafe, KeepsBytes, KeepsFront, Reaches};
 ghost use Rattle.tp_stream_files.specs.Opening.{KeepsFiles, to_write};
@@ -12,7 +12,7 @@ use crate::folders::sync_folder_of;
 use crate::outside::{Outside, OutsideFile};
 use crate::system::{EndFile, EndFiles};
 use crate::writing::write_front;
-use crate::{Sink, SinkFault};
+use crate::{PutAt, Sink, SinkFault};
 use std::fs::{Files, OpenFile, OpenOptions};
 use std::io;
 use std::io::{ErrorKind, Write};
@@ -165,7 +165,7 @@ impl<F: EndFile + Drop> FileSink<F> {
 }
 
 impl<'a, F: EndFile + Drop, O: Write> Sink for AnySink<'a, F, O> {
-    ghost use Rattle.tp_stream_files.specs.Any.{WasPut, WasSettled, length_of, path_to, reach_of};
+    ghost use Rattle.tp_stream_files.specs.Any.{WasSettled, length_of, path_to, reach_of};
 
     ghost held = { λ _. None };
 
@@ -192,30 +192,36 @@ impl<'a, F: EndFile + Drop, O: Write> Sink for AnySink<'a, F, O> {
         }
     }
 
-    #[tactic(auto, using(crate::proofs::Paths::wrote_there))]
-    fn put(&mut self, at: u64, bytes: &[u8]) -> Result<(), SinkFault>
-        ensures put { OnOk result (HasPut at bytes.now None None) }
-        ensures front { KeepsFront at None None }
-        ensures path { path_to F.calls self.new ≡ path_to F.calls self.old }
-        ensures asked { WasPut F.calls O.contents at bytes.now (is_ok result) self.old self.new }
-    {
-        match self {
-            AnySink::File(sink) => sink.put(at, bytes),
-            AnySink::Out(out) => answer(write_front(*out, bytes)),
-            AnySink::Nothing => Ok(()),
-        }
-    }
-
     #[tactic(auto, using(crate::proofs::Paths::synced_there))]
     fn settle(&mut self) -> Result<(), SinkFault>
         ensures safe { OnOk result (IsSafe None) }
         ensures bytes { KeepsBytes None None }
         ensures path { path_to F.calls self.new ≡ path_to F.calls self.old }
+        ensures port { let none : Option ℕ = None in none ≡ none }
         ensures asked { WasSettled F.calls O.contents (is_ok result) self.old self.new }
     {
         match self {
             AnySink::File(sink) => sink.settle(),
             AnySink::Out(out) => answer(out.flush()),
+            AnySink::Nothing => Ok(()),
+        }
+    }
+}
+
+impl<'a, F: EndFile + Drop, O: Write> PutAt for AnySink<'a, F, O> {
+    ghost use Rattle.tp_stream_files.specs.Any.{WasPut, path_to};
+
+    #[tactic(auto, using(crate::proofs::Paths::wrote_there))]
+    fn put(&mut self, at: u64, bytes: &[u8]) -> Result<(), SinkFault>
+        ensures put { OnOk result (HasPut at bytes.now None None) }
+        ensures front { KeepsFront at None None }
+        ensures path { path_to F.calls self.new ≡ path_to F.calls self.old }
+        ensures port { let none : Option ℕ = None in none ≡ none }
+        ensures asked { WasPut F.calls O.contents at bytes.now (is_ok result) self.old self.new }
+    {
+        match self {
+            AnySink::File(sink) => sink.put(at, bytes),
+            AnySink::Out(out) => answer(write_front(*out, bytes)),
             AnySink::Nothing => Ok(()),
         }
     }

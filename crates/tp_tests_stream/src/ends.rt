@@ -9,7 +9,7 @@ use std::process::Abort;
 use std::sync::Wait;
 use std::test::Fail;
 use std::thread::Threads;
-use tp_stream::{Ending, MemSink, Output, Sink, SinkFault, Source, Streams, Task};
+use tp_stream::{Ending, MemSink, Output, PutAt, Sink, SinkFault, Source, Streams, Task};
 
 /// A sink that takes a number of pieces, and then its taker has gone.
 #[derive(Drop)]
@@ -29,6 +29,12 @@ impl Sink for Leaving {
         Some(self.bytes.len() as u64)
     }
 
+    fn settle(&mut self) -> Result<(), SinkFault> {
+        Ok(())
+    }
+}
+
+impl PutAt for Leaving {
     fn put(&mut self, at: u64, bytes: &[u8]) -> Result<(), SinkFault> {
         if self.pieces == 0 {
             return Err(SinkFault::Gone);
@@ -37,10 +43,6 @@ impl Sink for Leaving {
         if self.bytes.len() as u64 != at || self.bytes.extend_from_slice(bytes).is_err() {
             return Err(SinkFault::Failed);
         }
-        Ok(())
-    }
-
-    fn settle(&mut self) -> Result<(), SinkFault> {
         Ok(())
     }
 }

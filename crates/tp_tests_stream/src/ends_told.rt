@@ -6,8 +6,8 @@ use std::io;
 use std::io::{ErrorKind, Write};
 use std::test::Fail;
 use tp_stream_files::{
-    AnySink, Ended, Ending, Listener, Onlooker, Output, Progress, Sink, SinkFault, Stopped, Teller,
-    Times, say_end,
+    AnySink, Ended, Ending, Listener, Onlooker, Output, Progress, PutAt, Sink, SinkFault, Stopped,
+    Teller, Times, say_end,
 };
 
 /// How far a stream has come at a time in milliseconds, with the first two outputs.

@@ -5,7 +5,7 @@ use std::alloc::Global;
 use std::io;
 use std::io::{ErrorKind, Write};
 use std::test::Fail;
-use tp_stream_files::{AnySink, EndFile, FileSink, Sink, SinkFault};
+use tp_stream_files::{AnySink, EndFile, FileSink, PutAt, Sink, SinkFault};
 
 /// What came of an output: how many bytes the sink counts, or `None` if the file wasn't opened; how the last call went; and how many times a folder
 /// was synced.

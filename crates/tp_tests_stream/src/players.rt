@@ -14,8 +14,8 @@ use tp_disk::{Disk, MemDisk};
 use tp_model::Form;
 use tp_recover::open;
 use tp_stream::{
-    Ended, Ending, Input, Listener, MemSink, Noted, Output, Progress, Sink, Source, SourceFailed,
-    Stop, Stopped, StreamFault, Streams, Task, stream,
+    Ended, Ending, Input, Listener, MemSink, Noted, Output, Progress, Source, SourceFailed, Stop,
+    Stopped, StreamFault, Streams, Taker, Task, stream,
 };
 
 /// A task that ends once nothing is left to do.
@@ -204,7 +204,13 @@ fn streams(
 }
 
 // A stream, if as many steps are asked for as may be.
-fn play_within<D: Disk + Send + Drop, S: Sink, I: Source, L: Listener, R: Threads + Wait + Sync>(
+fn play_within<
+    D: Disk + Send + Drop,
+    S: Taker<D>,
+    I: Source,
+    L: Listener,
+    R: Threads + Wait + Sync,
+>(
     rt: &R,
     alloc: Global,
     task: Task,
@@ -220,7 +226,7 @@ fn play_within<D: Disk + Send + Drop, S: Sink, I: Source, L: Listener, R: Thread
 }
 
 /// A stream on a device: how it ended, and what a crash leaves then.
-pub(crate) fn play_on<S: Sink, I: Source, L: Listener, R: Threads + Wait + Abort + Sync>(
+pub(crate) fn play_on<S: Taker<MemDisk>, I: Source, L: Listener, R: Threads + Wait + Abort + Sync>(
     rt: &R,
     alloc: Global,
     task: Task,
@@ -235,7 +241,7 @@ pub(crate) fn play_on<S: Sink, I: Source, L: Listener, R: Threads + Wait + Abort
 }
 
 /// A stream on the device with these bytes, which are then what a crash leaves.
-pub(crate) fn play<S: Sink, I: Source, L: Listener, R: Threads + Wait + Abort + Sync>(
+pub(crate) fn play<S: Taker<MemDisk>, I: Source, L: Listener, R: Threads + Wait + Abort + Sync>(
     rt: &R,
     alloc: Global,
     task: Task,

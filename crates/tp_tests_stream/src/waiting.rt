@@ -4,7 +4,7 @@ ghost use Rattle.std.specs.Prelude.{None};
 
 use crate::players::Pieces;
 use std::cell::Cell;
-use tp_stream::{Sink, SinkFault, Source, SourceFailed};
+use tp_stream::{PutAt, Sink, SinkFault, Source, SourceFailed};
 
 /// A sink that tells how many bytes it was given. It keeps none.
 #[derive(Drop)]
@@ -30,15 +30,17 @@ impl<'a> Sink for Answered<'a> {
         Some(self.answers.get())
     }
 
+    fn settle(&mut self) -> Result<(), SinkFault> {
+        Ok(())
+    }
+}
+
+impl<'a> PutAt for Answered<'a> {
     fn put(&mut self, at: u64, bytes: &[u8]) -> Result<(), SinkFault> {
         if self.answers.get() != at {
             return Err(SinkFault::Failed);
         }
         self.answers.set(at.saturating_add(bytes.len() as u64));
-        Ok(())
-    }
-
-    fn settle(&mut self) -> Result<(), SinkFault> {
         Ok(())
     }
 }

@@ -1,6 +1,11 @@
-use Rattle.std.proofs.Common.{◌≡◌, sym, ap, ◌∙◌, arith}
+use Rattle.std.proofs.Common.{◌≡◌, sym, ap, subst, ◌∙◌, arith}
 use Rattle.tp_book.specs.Host.{shown_upto_of}
+use Rattle.tp_stream.specs.Steps.{PortsStand}
 use Rattle.tp_stream.proofs.output.step.Goals as goal
+
+pub put_shown-requires-clause-stands : goal.put_shown-requires-clause-stands
+put_shown-requires-clause-stands g c k began =
+    subst (PortsStand g.J.Naming.formatted c.args.flusher.now.world) (sym c.book.ensures) (c.requires.stands k began)
 
 pub returns-in-Err-confirm_put-clause-room : goal.returns-in-Err-confirm_put-clause-room
 returns-in-Err-confirm_put-clause-room g c room =

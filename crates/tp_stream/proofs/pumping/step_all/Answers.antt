@@ -6,11 +6,15 @@ use Rattle.tp_stream.specs.Streamed.{OtherThanFull}
 use Rattle.tp_stream.proofs.FailedEnds.{names_output}
 use Rattle.tp_stream.proofs.Failures.{if_err}
 use Rattle.tp_stream.proofs.Kept.{room_for_one, room_then}
-use Rattle.tp_stream.proofs.Puts.{all_left, each_any, each_more, left_nothing, left_then, puts_left}
+use Rattle.tp_stream.proofs.Puts.{all_left, each_any, each_more, left_nothing, left_then, puts_left, stands_left}
 use Rattle.tp_stream.proofs.pumping.step_all.Goals as goal
 
 pub loop-output-init : goal.loop-output-init
 loop-output-init g c = record { left = all_left c.args.held.now.book; puts = refl; many = refl; unfed = λ p. refl; room = λ journal L there. (L, let none : length c.args.outputs.now ≡ length c.args.outputs.now - 0 = omega arith in subst (λ n. has_room_for journal c.args.held.now.book n ≡ true) none there) }
+
+pub step_output-requires : goal.step_output-requires
+step_output-requires g c k began =
+    stands_left g.J.Naming.formatted c.args.flusher.now.world c.args.held.now.book c.loop-output.held.book (c.requires k began) c.loop-output.invariant.left
 
 pub loop-output-preserved : goal.loop-output-preserved
 loop-output-preserved g c =
