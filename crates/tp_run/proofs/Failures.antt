@@ -3,7 +3,8 @@ use Rattle.std.specs.Prelude.{if◌then◌else◌, IfErr, MatchResult}
 use Rattle.std.proofs.Common.{◌≡◌, ℕ, ◌+◌, inl, inr, Bool, true, false, Result, Ok, Err, IsOk, OnOk, refl, sym, ap, subst, ◌∙◌, arith}
 use Rattle.tp_run.proofs.Lower.{NodeState, Position, Broken, Resting, Unopened}
 use Rattle.tp_recover.specs.declared.unopened.Unopened.TheVariants as why
-use Rattle.tp_run.proofs.Lower.{has_read, FlushFault, AreaFull, DeviceFailed, Memory, StoreBroken, Ended, Rested, Flushing, position}
+use Rattle.tp_run.proofs.Lower.{has_read, FlushFault, AreaFull, DeviceFailed, Ended, Rested, Flushing, position}
+use Rattle.tp_flush.specs.declared.fault.FlushFault.TheVariants.{Memory, StoreBroken}
 use Rattle.tp_run.specs.declared.fault.RunFault.{RunFault}
 use Rattle.tp_run.specs.Failures.{CountsFailures, IsFlushFault, failed_to_open, failures_after, flush_fault_of}
 

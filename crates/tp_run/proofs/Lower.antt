@@ -1,7 +1,7 @@
 -- What proofs here name of the crates below.
 pub use Rattle.std.proofs.lemmas.Bool.{le-leb, le-ltb, lt-leb, true≢false}
 pub use Rattle.std.proofs.lemmas.List.{drop_all, length-map, length-take, length-take-le, take-append-le, take-take, take_all, take_rest}
-pub use Rattle.std.proofs.lemmas.List.Sums.{count_by-le-length}
+pub use Rattle.std.proofs.lemmas.List.Sums.{count_by-le-length, sum_by-cons}
 pub use Rattle.std.proofs.lemmas.Result.{IfOk-weaker}
 pub use Rattle.std.specs.Io.KnownBytes.{Appends}
 pub use Rattle.std.specs.List.{AllByRecursion, enumerate_from}
@@ -30,7 +30,6 @@ pub use Rattle.tp_model.specs.declared.opening.OpenFault.{OpenFault}
 pub use Rattle.tp_law_network.proofs.Acknowledged.{GoesOn, run_goes_on}
 pub use Rattle.tp_law_network.proofs.Walks.{chain_leads}
 pub use Rattle.tp_node.specs.declared.rest.Rest.{Rest}
-pub use Rattle.tp_node.specs.declared.rest.Rest.TheVariants.{Busy, Halted, Quiet}
 pub use Rattle.tp_net.proofs.Topologies.{has_shape}
 pub use Rattle.tp_book.specs.Acts.{confirm_entries}
 pub use Rattle.tp_book.specs.Book.{BookValue, next_in_book, world_of}
@@ -45,19 +44,27 @@ pub use Rattle.tp_disk.specs.Reads.{AreTrue, WereTrue}
 pub use Rattle.tp_area.specs.declared.place.Place.{Place}
 pub use Rattle.tp_recover.specs.Reading.{LeavesNothingNew, has_read}
 pub use Rattle.tp_recover.specs.declared.unopened.Unopened.{Unopened}
+pub use Rattle.tp_ready.specs.Answered.{answer}
+pub use Rattle.tp_ready.specs.Numbers.{Numbers}
 pub use Rattle.tp_ready.specs.Seen.{RaiserValue}
+pub use Rattle.tp_ready.specs.declared.answers.Answer.{Answer}
 pub use Rattle.tp_shared.proofs.Writing.{enumerated_below}
 pub use Rattle.tp_shared.specs.Below.{AreBelow}
 pub use Rattle.tp_shared.specs.HandedIn.{handed}
+pub use Rattle.tp_shared.specs.Holds.{InHand}
 pub use Rattle.tp_shared.specs.Parted.{PartsValue, name_of}
 pub use Rattle.tp_shared.specs.Resting.{rest_in}
 pub use Rattle.tp_shared.specs.Seals.{Stage}
 pub use Rattle.tp_work.specs.Answers.{RefusesFor}
+pub use Rattle.tp_work.specs.Heeds.{heed_after, is_broken, is_heeded}
 pub use Rattle.tp_work.specs.Offers.{offer_fault}
 pub use Rattle.tp_work.specs.Outputs.{confirm_fault}
 pub use Rattle.tp_work.specs.Receipts.{IsFor}
-pub use Rattle.tp_work.specs.Turns.{Refused, Turned}
+pub use Rattle.tp_work.specs.Turns.{Handed, Refused, RefusedBy, Turned}
 pub use Rattle.tp_work.specs.declared.fault.TurnFault.{TurnFault}
+pub use Rattle.tp_work.specs.declared.fault.TurnFault.TheVariants.{Empty, JournalFull, Memory, StoreBroken}
+pub use Rattle.tp_work.specs.declared.heed.Heed.{Heed}
+pub use Rattle.tp_work.specs.declared.heed.Heed.TheVariants.{Unbroken}
 pub use Rattle.tp_work.specs.declared.host_fault.ConfirmFault.{ConfirmFault}
 pub use Rattle.tp_work.specs.declared.host_fault.OfferFault.{OfferFault}
 pub use Rattle.tp_work.specs.declared.seat.Seat.{Seat}
@@ -78,5 +85,5 @@ pub use Rattle.tp_flush.specs.Lower.{item_of}
 pub use Rattle.tp_flush.specs.Made.{IsMadeOf}
 pub use Rattle.tp_flush.specs.Settled.{HasFront, RecoversWith, SlipsStand}
 pub use Rattle.tp_flush.specs.declared.fault.FlushFault.{FlushFault}
-pub use Rattle.tp_flush.specs.declared.fault.FlushFault.TheVariants.{AreaFull, DeviceFailed, Memory, StoreBroken}
+pub use Rattle.tp_flush.specs.declared.fault.FlushFault.TheVariants.{AreaFull, DeviceFailed}
 pub use Rattle.tp_stream_files.proofs.Fronts.{kept_appended, more_appended}

@@ -1,9 +1,9 @@
 -- What is left to do in the network to which the flusher's journal leads.
 use Rattle.std.proofs.Common.{◌≡◌, ℕ, ◌≤◌, [], ◌++◌, take, sym, ap, ◌∙◌, arith, append-nil, length-append, subst, Result, Ok, Err}
 use Rattle.std.specs.Prelude.{IfOk}
-use Rattle.tp_run.proofs.Lower.{take_all, NodeState, t414, Network, plain_network, after, State, Opened, held_of, verdict, World, reopened, BookValue, next_in_book, world_of, IsAheadOf, Flushing, Walked, Follows, Began, stored_follows, Rest, Halted, Quiet, Busy, rest_in}
+use Rattle.tp_run.proofs.Lower.{take_all, NodeState, t414, Network, plain_network, after, State, Opened, held_of, verdict, World, reopened, BookValue, next_in_book, world_of, IsAheadOf, Flushing, Walked, Follows, Began, stored_follows, Rest, rest_in}
 use Rattle.tp_run.specs.declared.fault.RunFault.{RunFault}
-use Rattle.tp_run.specs.Rested.{LeadsToRest, RestsAt, SaysRest}
+use Rattle.tp_run.specs.Rested.{LeadsToRest, RestsAt}
 use Rattle.tp_run.proofs.Shown.{nothing_in}
 use Rattle.tp_run.proofs.Compacts.{if_both}
 
@@ -19,25 +19,18 @@ leads_rest start w b next rest A low at is =
     let front : take next w.journal ≡ w.journal ++ A.more = whole ∙ sym (append-nil w.journal) ∙ ap (λ es. w.journal ++ es) (sym nothing) in
     record { state = plain_network (world_of b).live; leads = ap (after t414 start) front ∙ A.leads; is = is }
 
-rest_said : (start : Network NodeState) (w : World NodeState) (b : BookValue) (next : ℕ) (rest : Rest) → IsAheadOf start w b → next ≤ w.mark → next_in_book b ≡ next → rest ≡ rest_in (plain_network (world_of b).live)
-    → SaysRest start w.journal next rest
-rest_said start w b next Halted A low at is = leads_rest start w b next Halted A low at is
-rest_said start w b next Quiet A low at is = leads_rest start w b next Quiet A low at is
-rest_said start w b next Busy A low at is = tt
-
--- and of a run that was done, whose next number the book has
-pub done_rests : (start : Network NodeState) (w : World NodeState) (b : BookValue) (next : ℕ) (rest : Rest) (result : Result ℕ RunFault) → result ≡ Ok next → IfOk result (λ number. number ≤ w.mark) → IsAheadOf start w b → next_in_book b ≡ next
-    → rest ≡ rest_in (plain_network (world_of b).live) → IfOk result (λ number. SaysRest start w.journal number rest)
-done_rests start w b next rest result done low A at is =
-    subst (λ r. IfOk r (λ number. SaysRest start w.journal number rest)) (sym done)
-    (rest_said start w b next rest A (subst (λ r. IfOk r (λ number. number ≤ w.mark)) done low) at is)
+-- after a run that was done, whose next number the book has
+pub done_rests : (start : Network NodeState) (w : World NodeState) (b : BookValue) (rest : Rest) (result : Result ℕ RunFault) → IsAheadOf start w b
+    → IfOk result (λ next. (next_in_book b ≡ next) × (next ≤ w.mark)) → rest ≡ rest_in (plain_network (world_of b).live) → IfOk result (λ next. LeadsToRest start w.journal next rest)
+done_rests start w b rest (Ok next) A stands is = leads_rest start w b next rest A stands.1 stands.0 is
+done_rests start w b rest (Err fault) A stands is = tt
 
 -- of a device that was opened, and whose flusher walked on from there
 pub served_rests : (start : Network NodeState) (before : World NodeState) (opened : Opened) (old new : Flushing) (rest : Rest) (result : Result ℕ RunFault) → Began start before old.state.now.bytes → verdict old.state.now.bytes ≡ Ok opened
-    → old.world ≡ reopened before old.state.now.bytes (held_of opened) opened.now → Walked old new → IfOk result (λ next. next ≤ new.world.mark) → IfOk result (λ next. SaysRest start new.world.journal next rest)
+    → old.world ≡ reopened before old.state.now.bytes (held_of opened) opened.now → Walked old new → IfOk result (λ next. next ≤ new.world.mark) → IfOk result (λ next. LeadsToRest start new.world.journal next rest)
     → IfOk result (λ next. RestsAt start rest next old.state new.state)
 served_rests start before opened old new rest result began reads first W =
-    if_both result (λ next. next ≤ new.world.mark) (λ next. SaysRest start new.world.journal next rest) (λ next. RestsAt start rest next old.state new.state)
+    if_both result (λ next. next ≤ new.world.mark) (λ next. LeadsToRest start new.world.journal next rest) (λ next. RestsAt start rest next old.state new.state)
     (λ next low says. record { journal = new.world.journal; stored = λ left may. stored_follows start before old.state.now.bytes opened began reads old new first W next low left may; says = says })
 
 -- and that was read before, which left its bytes as they are

@@ -25,7 +25,6 @@ pub use Rattle.tp_model.specs.declared.limits.TheConstants.{MAX_STEPS}
 pub use Rattle.tp_model.specs.declared.opening.OpenFault.{OpenFault}
 pub use Rattle.tp_law_machine.specs.NodeOfBytes.{IsNodeOfBytes}
 pub use Rattle.tp_node.specs.declared.rest.Rest.{Rest}
-pub use Rattle.tp_node.specs.declared.rest.Rest.TheVariants.{Busy, Halted, Quiet}
 pub use Rattle.tp_book.specs.Acts.{confirm_entries}
 pub use Rattle.tp_book.specs.Book.{BookValue, next_in_book}
 pub use Rattle.tp_book.specs.Covered.{ReceiptValue}

@@ -3,13 +3,14 @@
 ghost use Rattle.std.specs.Prelude.{◌≡◌, ◌<◌, ◌≤◌, [], true, false, All, Ok, Err, Some, length, vec_len, IfErr, IfOk, IsErr};
 ghost use Rattle.tp_run.specs.Lower.{AreTrue, WereTrue, AllByRecursion, place_at, Began, IsSameProcess, Walked, IsSynced, IsNodeOfBytes, is_roomy, room, t414_ends, verdict, IsCut, Resting, MAX_STEPS, LeavesNothingNew, IsMadeOf, Unopened, MAX_WORKERS, Names, Steps};
 ghost use Rattle.tp_run.specs.Answered.{AnswerFor};
+ghost use Rattle.tp_run.specs.Every.{every_of};
 ghost use Rattle.tp_run.specs.Failures.{failures_after, has_failed};
 ghost use Rattle.tp_run.specs.Faults.{ComesBegun, IsSilent, IsUnbegun};
 ghost use Rattle.tp_run.specs.HandedOver.{HandedOver};
 ghost use Rattle.tp_run.specs.Input.{input_slips, rest_at};
 ghost use Rattle.tp_run.specs.Outset.{outset_in};
 ghost use Rattle.tp_run.specs.Ran.{History, Ran, RanInto, Settled};
-ghost use Rattle.tp_run.specs.Rested.{RestsAt, SaysRest};
+ghost use Rattle.tp_run.specs.Rested.{LeadsToRest, RestsAt};
 ghost use Rattle.tp_run.specs.Shown.{MayPrint};
 
 use crate::beginning::every_of;
@@ -18,7 +19,6 @@ use crate::job::Job;
 use crate::opening::{job_fault, parts_of};
 use crate::outlet::Outlet;
 use crate::outset::Outset;
-use crate::resting::rest_after;
 use crate::serving::serve;
 use std::alloc::Global;
 use std::marker::Brand;
@@ -33,7 +33,7 @@ use tp_node::Rest;
 use tp_ready::Raiser;
 use tp_recover::{Opened, open};
 use tp_shared::{HostKey, Naming, NoGate, Parts};
-use tp_work::{Net, Seat};
+use tp_work::{Heed, Net, Seat};
 
 /// Drops a network. It is never inlined, since moving the network takes room on the stack.
 #[inline(never)]
@@ -59,7 +59,9 @@ fn use_up<J: Naming + Send + Sync, D: Disk + Send + Drop, O: Outlet, R: Threads 
     requires there { outset.port < length J.start.ports }
     requires first { outset.next ≡ J.first }
     requires quantum { net.quantum ≡ job.quantum }
+    requires every { every ≡ every_of job.every flusher.topology flusher.place.areas.length }
     requires seats { All (λ seat. (seat.hand.of ≡ Some net.queue) × (seat.slips ≡ [])) seats.items }
+    requires idle { All (λ seat. (seat.answers ≡ []) × (seat.heed ≡ Heed.Unbroken)) seats.items }
     requires count { vec_len seats ≡ job.workers }
     requires host { host ≡ [] }
     requires key { key ≡ [] }
@@ -76,17 +78,17 @@ fn use_up<J: Naming + Send + Sync, D: Disk + Send + Drop, O: Outlet, R: Threads 
     ensures handed { AreTrue result.0.reads → Began J.formatted J.before flusher.opened
         → HandedOver J.formatted result.0.world.journal outset input.now (O.value out.old).taken (O.value out.new).taken }
     ensures rest { AreTrue result.0.reads → Began J.formatted J.before flusher.opened
-        → IfOk result.1 (λ next. SaysRest J.formatted result.0.world.journal next result.2) }
+        → IfOk result.1 (λ next. LeadsToRest J.formatted result.0.world.journal next result.2) }
     ensures silent { IsSilent result.1 → O.value out.new ≡ O.value out.old }
     ensures some { IfErr result.1 (λ fault. fault ≡ RunFault.OfferRefused → 0 < length (rest_at outset input.now)) }
     ensures begun { IfErr result.1 ComesBegun }
 {
     let mut key = key;
+    let mut rest = Rest::Busy;
     let (mut flusher, done) = serve(
-        rt, alloc, job, every, outset, &net, seats, host, &mut key, flusher, input, out,
+        rt, alloc, job, every, outset, &net, seats, host, &mut key, flusher, input, out, &mut rest,
     );
     flusher.settle_host_under(rt, net.shared(), &mut key);
-    let rest = rest_after(rt, net.shared(), &mut flusher, &done);
     let_go(net);
     (flusher, done, rest)
 }
@@ -161,8 +163,9 @@ fn run_parts<J: Naming + Send + Sync, D: Disk + Send + Drop, O: Outlet, R: Threa
 /// - The workers make their turns, and what they did is stored.
 /// - It prints what the port shows, and confirms that.
 ///
-/// Answers the device, the number that the next entry gets, and what is left to do in the network. If that says that each node has halted, or that
-/// nothing is left, it is true of the network to which the entries below that number lead. `Busy` claims nothing.
+/// Answers the device, the number that the next entry gets, and what is left to do in the network. After a finished run that is exactly what is left
+/// to do in the network to which the entries below that number lead: each node has halted, nothing is left, or something is. If the run failed, it
+/// claims nothing. A finished run has made as many turns as the job asks for.
 ///
 /// A crash at any moment of the call leaves one of two things. Either a crash just before the call might have left it, too; or it opens to the
 /// network that a prefix of the journal leads to. That prefix has all that the device had. After a finished run the prefix has each entry below the

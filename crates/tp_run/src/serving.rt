@@ -1,7 +1,8 @@
 //! What a run does with a network in threads, and with its flusher.
 
-ghost use Rattle.std.specs.Prelude.{◌≡◌, ◌<◌, ◌≤◌, ◌⊎◌, ◌++◌, [], All, flat_map, length, vec_len, IfErr, IfOk, OnErr, Some};
+ghost use Rattle.std.specs.Prelude.{◌≡◌, ◌<◌, ◌≤◌, ◌⊎◌, ◌++◌, [], All, flat_map, length, sum_by, vec_len, IfErr, IfOk, OnErr, Some};
 ghost use Rattle.tp_run.specs.Lower.{AreTrue, WereTrue, Began, IsSameProcess, Walked, position, SlipsStand, AreAll, Resting};
+ghost use Rattle.tp_run.specs.Every.{every_of};
 ghost use Rattle.tp_run.specs.Failures.{CountsFailures, failures_after, has_failed};
 ghost use Rattle.tp_run.specs.Faults.{ComesBegun, ComesBehind, IsLate, IsOfferFault, IsSilent};
 ghost use Rattle.tp_run.specs.HandedOver.{ConfirmsTaken, HandsIn};
@@ -9,6 +10,7 @@ ghost use Rattle.tp_run.specs.Input.{IsForInput, input_slips, rest_at};
 ghost use Rattle.tp_run.specs.Output.{IsForOutput};
 ghost use Rattle.tp_run.specs.Prints.{TellsAllPrinted};
 ghost use Rattle.tp_run.specs.Ran.{Settled};
+ghost use Rattle.tp_run.specs.Rested.{LeadsToRest};
 ghost use Rattle.tp_run.specs.Shown.{AreShownIn, MayPrint, MayShow};
 ghost use Rattle.tp_run.specs.Worked.{Worked};
 
@@ -20,6 +22,7 @@ use crate::offering::offer_at;
 use crate::outlet::Outlet;
 use crate::outset::Outset;
 use crate::printing::print_from;
+use crate::resting::rest_after;
 use crate::watch::Watch;
 use crate::working::work_all;
 use std::alloc::Global;
@@ -28,8 +31,9 @@ use std::thread::{Threads, join};
 use tp_book::Receipt;
 use tp_disk::Disk;
 use tp_flush::Flusher;
+use tp_node::Rest;
 use tp_shared::{HostKey, Locked, Naming, NoGate, Shared};
-use tp_work::{Net, Seat};
+use tp_work::{Heed, Net, Seat};
 
 /// Hands in the input, under the book's lock. `seat` gets the slips, and `key` shows the entries. Fails as `offer_at` does, and then both stay as they
 /// were.
@@ -106,23 +110,25 @@ fn print<J: Naming, D: Disk, O: Outlet, R: Wait>(
 }
 
 /// Lets the workers make their turns. The flusher makes its own meanwhile in another thread, or after them if no thread can be made. Answers the
-/// flusher, and the seats with the slips of what the turns made.
+/// flusher, and the seats with the slips of what the turns made. `watch` is as the job asks.
 #[inline(never)]
 fn work<J: Naming + Send + Sync, D: Disk + Send + Drop, R: Threads + Wait + Sync>(
     rt: &R,
     alloc: Global,
+    _job: Job,
     net: &Net<J, NoGate>,
     seats: Vec<Seat<J>>,
     watch: Watch,
     flusher: Flusher<J, D>,
 ) -> (Flusher<J, D>, Vec<Seat<J>>)
-    requires seats { All (λ seat. (seat.hand.of ≡ Some net.now.queue) × Worked J.start net.now.quantum seat.slips) seats.items }
+    requires watch { (watch.turns ≡ _job.turns) × (watch.every ≡ every_of _job.every flusher.topology flusher.place.areas.length) }
+    requires seats { All (λ seat. (seat.hand.of ≡ Some net.now.queue) × Worked J.start net.now.quantum (length seat.answers) seat.slips × (seat.heed ≡ Heed.Unbroken)) seats.items }
     ensures premise { WereTrue flusher.reads result.0.reads }
     ensures walks { AreTrue result.0.reads → Began J.formatted J.before flusher.opened → Walked flusher result.0 }
     ensures process { IsSameProcess flusher result.0 }
     ensures failures { CountsFailures flusher result.0 }
     ensures count { vec_len result.1 ≡ vec_len seats }
-    ensures seats { All (λ seat. Worked J.start net.now.quantum seat.slips) result.1.items }
+    ensures seats { All (λ seat. Worked J.start net.now.quantum (length seat.answers) seat.slips) result.1.items }
 {
     let watching = &watch;
     let shared = net.shared();
@@ -132,8 +138,8 @@ fn work<J: Naming + Send + Sync, D: Disk + Send + Drop, R: Threads + Wait + Sync
             ensures { WereTrue flusher.reads result.reads × (AreTrue result.reads → Began J.formatted J.before flusher.opened → Walked flusher result) × IsSameProcess flusher result × CountsFailures flusher result }
         { flush_meanwhile(rt, alloc, shared, watching, flusher) },
         move || -> Vec<Seat<J>>
-            requires { All (λ seat. (seat.hand.of ≡ Some net.now.queue) × Worked J.start net.now.quantum seat.slips) seats.items }
-            ensures { (vec_len result ≡ vec_len seats) × All (λ seat. Worked J.start net.entry.now.quantum seat.slips) result.items }
+            requires { All (λ seat. (seat.hand.of ≡ Some net.now.queue) × Worked J.start net.now.quantum (length seat.answers) seat.slips × (seat.heed ≡ Heed.Unbroken)) seats.items }
+            ensures { (vec_len result ≡ vec_len seats) × All (λ seat. Worked J.start net.entry.now.quantum (length seat.answers) seat.slips) result.items }
         {
             let mut seats = seats;
             work_all(rt, alloc, net, watching, seats.as_mut_slice());
@@ -143,20 +149,26 @@ fn work<J: Naming + Send + Sync, D: Disk + Send + Drop, R: Threads + Wait + Sync
 }
 
 /// Checks, under the book's lock and after the last flush, that the seats of the host and the workers have exactly the slips of all entries from
-/// `first` on. The next number must be `next`. Answers `next`, or fails with `Unaccounted`. Changes nothing.
+/// `first` on, and that the workers made `turns` turns. The next number must be `next`. Answers `next`, or fails with `Unaccounted`. `rest` becomes
+/// what is left to do in the network then. Changes nothing else.
 fn settle<J: Naming, D: Disk, R: Wait>(
     rt: &R,
     shared: &Shared<J>,
     flusher: &mut Flusher<J, D>,
     first: u64,
     next: u64,
+    turns: u32,
     seats: Vec<Seat<J>>,
     host: tp_shared::Seat<J>,
+    rest: &mut Rest,
 ) -> Result<u64, RunFault>
     requires first { first ≡ J.first }
     ensures same { flusher.new ≡ flusher.old }
     ensures stand { AreTrue flusher.new.reads → Began J.formatted J.before flusher.old.opened → SlipsStand flusher.old.world.journal host }
     ensures next { IfOk result (λ answer. answer ≡ next) }
+    ensures turns { IfOk result (λ answer. sum_by (λ seat. length seat.answers) seats.items ≡ turns) }
+    ensures rest { AreTrue flusher.new.reads → Began J.formatted J.before flusher.old.opened
+        → IfOk result (λ answer. LeadsToRest J.formatted flusher.old.world.journal answer rest.new) }
     ensures all { AreTrue flusher.new.reads → Began J.formatted J.before flusher.old.opened
         → IfOk result (λ answer. AreAll J.first answer flusher.old.world.journal (host ++ flat_map (λ seat. seat.slips) seats.items)) }
     ensures late { IfErr result IsLate }
@@ -165,13 +177,15 @@ fn settle<J: Naming, D: Disk, R: Wait>(
     let mut host = host;
     let mut held = shared.book().lock(rt);
     flusher.settle_seat(&mut held, &mut host);
-    account(&mut held, flusher, first, next, seats, host)
+    let done = account(&mut held, flusher, first, next, turns, seats, host);
+    *rest = rest_after(rt, shared, &mut held, flusher, &done);
+    done
 }
 
 /// Flushes, prints what is shown, confirms it, and flushes again. Answers the number that the next entry gets. All that was journalled since the
 /// opening is then in the journal: the workers' entries, those of the host's seat (the input's), and the one that confirms the output. However it
 /// ends, what was printed are outputs of the port in a network to which the journal leads. `key` shows the entry that confirms the output, unless it
-/// ends before that was made.
+/// ends before that was made. `rest` becomes what is left to do in the network, exactly.
 #[inline(never)]
 fn finish<J: Naming, D: Disk, O: Outlet, R: Wait>(
     rt: &R,
@@ -185,10 +199,11 @@ fn finish<J: Naming, D: Disk, O: Outlet, R: Wait>(
     seats: Vec<Seat<J>>,
     flusher: &mut Flusher<J, D>,
     out: &mut O,
+    rest: &mut Rest,
 ) -> Result<u64, RunFault>
     requires there { outset.port < length J.start.ports }
     requires first { outset.next ≡ J.first }
-    requires seats { All (λ seat. Worked J.start job.quantum seat.slips) seats.items }
+    requires seats { All (λ seat. Worked J.start job.quantum (length seat.answers) seat.slips) seats.items }
     requires count { vec_len seats ≡ job.workers }
     ensures premise { WereTrue flusher.old.reads flusher.new.reads }
     ensures walks { AreTrue flusher.new.reads → Began J.formatted J.before flusher.old.opened → Walked flusher.old flusher.new }
@@ -198,6 +213,8 @@ fn finish<J: Naming, D: Disk, O: Outlet, R: Wait>(
         → IfOk result (Settled J.formatted J.start job outset host (O.value out.old).taken (O.value out.new).taken flusher.new.world.journal) }
     ensures shown { AreTrue flusher.new.reads → Began J.formatted J.before flusher.old.opened
         → MayPrint J.formatted flusher.old flusher.new outset.port outset.confirmed (O.value out.old) (O.value out.new) result }
+    ensures rest { AreTrue flusher.new.reads → Began J.formatted J.before flusher.old.opened
+        → IfOk result (λ next. LeadsToRest J.formatted flusher.new.world.journal next rest.new) }
     ensures handed { AreTrue flusher.new.reads → Began J.formatted J.before flusher.old.opened
         → (key.new ≡ key.old) ⊎ ConfirmsTaken J.formatted flusher.new.world.journal outset.port outset.confirmed (O.value out.old).taken (O.value out.new).taken key.old key.new }
     ensures silent { IsSilent result → O.value out.new ≡ O.value out.old }
@@ -212,12 +229,22 @@ fn finish<J: Naming, D: Disk, O: Outlet, R: Wait>(
     let confirmed = print(rt, shared, &mut host, key, flusher, outset, mark, out)?;
     let next = confirmed.number();
     let _mark = flush_upto(rt, alloc, shared, flusher, next, RunFault::LastFlushFailed)?;
-    settle(rt, shared, flusher, outset.next, next, seats, host)
+    settle(
+        rt,
+        shared,
+        flusher,
+        outset.next,
+        next,
+        job.turns,
+        seats,
+        host,
+        rest,
+    )
 }
 
 /// Hands in the input, lets the workers make their turns, and prints and confirms what is shown then. Answers the flusher, and the number that the
 /// next entry gets. The seat `host` gets the slips of what is handed in and confirmed, and `key` shows these entries. If the input is refused, it
-/// fails before any turn; else it fails as `finish` does.
+/// fails before any turn; else it fails as `finish` does. `rest` becomes what is left to do in the network, exactly.
 #[inline(never)]
 pub(crate) fn serve<
     J: Naming + Send + Sync,
@@ -237,11 +264,14 @@ pub(crate) fn serve<
     flusher: Flusher<J, D>,
     input: &[u8],
     out: &mut O,
+    rest: &mut Rest,
 ) -> (Flusher<J, D>, Result<u64, RunFault>)
     requires there { outset.port < length J.start.ports }
     requires first { outset.next ≡ J.first }
     requires quantum { net.now.quantum ≡ job.quantum }
+    requires every { every ≡ every_of job.every flusher.topology flusher.place.areas.length }
     requires seats { All (λ seat. (seat.hand.of ≡ Some net.now.queue) × (seat.slips ≡ [])) seats.items }
+    requires idle { All (λ seat. (seat.answers ≡ []) × (seat.heed ≡ Heed.Unbroken)) seats.items }
     requires count { vec_len seats ≡ job.workers }
     requires host { host ≡ [] }
     requires key { key.old ≡ [] }
@@ -257,6 +287,8 @@ pub(crate) fn serve<
         → MayPrint J.formatted flusher result.0 outset.port outset.confirmed (O.value out.old) (O.value out.new) result.1 }
     ensures handed { AreTrue result.0.reads → Began J.formatted J.before flusher.opened
         → HandsIn J.formatted result.0.world.journal outset input.now (O.value out.old).taken (O.value out.new).taken key.new }
+    ensures rest { AreTrue result.0.reads → Began J.formatted J.before flusher.opened
+        → IfOk result.1 (λ next. LeadsToRest J.formatted result.0.world.journal next rest.new) }
     ensures silent { IsSilent result.1 → O.value out.new ≡ O.value out.old }
     ensures some { IfErr result.1 (λ fault. fault ≡ RunFault.OfferRefused → 0 < length (rest_at outset input.now)) }
     ensures begun { IfErr result.1 ComesBegun }
@@ -269,7 +301,7 @@ pub(crate) fn serve<
         Err(fault) => return (flusher, Err(fault)),
     };
     let watch = Watch::new(job.turns, every);
-    let (mut flusher, seats) = work(rt, alloc, net, seats, watch, flusher);
+    let (mut flusher, seats) = work(rt, alloc, job, net, seats, watch, flusher);
     let done = finish(
         rt,
         alloc,
@@ -282,6 +314,7 @@ pub(crate) fn serve<
         seats,
         &mut flusher,
         out,
+        rest,
     );
     (flusher, done)
 }

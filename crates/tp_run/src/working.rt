@@ -1,6 +1,7 @@
 //! Workers.
 
-ghost use Rattle.std.specs.Prelude.{◌≡◌, ◌<◌, ◌≤◌, ◌↔◌, false, All, None, Some, Err, IfErr, IfOk, IfSome, length};
+ghost use Rattle.std.specs.Prelude.{◌≡◌, ◌<◌, ◌≤◌, ◌↔◌, false, true, All, None, Some, Err, IfErr, IfOk, IfSome, length};
+ghost use Rattle.tp_work.specs.Heeds.{is_heeded};
 ghost use Rattle.tp_run.specs.Worked.{Worked};
 
 use crate::aside::Aside;
@@ -11,7 +12,7 @@ use std::sync::Wait;
 use std::thread;
 use std::thread::Threads;
 use tp_shared::{Naming, NoGate, Shared};
-use tp_work::{Net, Seat, Turn, TurnFault};
+use tp_work::{Heed, Net, Seat, Turn, TurnFault};
 
 /// Gives how many entries to tell for a turn that made `made`. If the turn was refused for lack of room or memory, that is at least one, since a turn
 /// of the flusher may make room.
@@ -58,7 +59,7 @@ fn begin<J: Naming, R: Wait>(rt: &R, alloc: Global, shared: &Shared<J>, watch: &
 }
 
 /// Makes turns until none is left, or until one is refused because the store has failed. Other refused turns count as turns. It never waits for the
-/// flusher; a worker that `helps` rests while turns are short. `seat` gets the slips of exactly these turns.
+/// flusher; a worker that `helps` rests while turns are short. `seat` gets the slips of exactly these turns, and counts them.
 fn work<J: Naming, R: Wait>(
     rt: &R,
     alloc: Global,
@@ -68,8 +69,10 @@ fn work<J: Naming, R: Wait>(
     seat: &mut Seat<J>,
 )
     requires hand { seat.old.hand.of ≡ Some net.now.queue }
-    requires worked { Worked J.start net.now.quantum seat.old.slips }
-    ensures worked { Worked J.start net.now.quantum seat.new.slips }
+    requires worked { Worked J.start net.now.quantum (length seat.old.answers) seat.old.slips }
+    requires heeds { seat.old.heed ≡ Heed.Unbroken }
+    ensures worked { Worked J.start net.now.quantum (length seat.new.answers) seat.new.slips }
+    ensures heeds { is_heeded seat.new.heed ≡ true }
 {
     let mut aside = Aside::new();
     if !helps {
@@ -108,9 +111,9 @@ pub(crate) fn work_all<J: Naming + Send + Sync, R: Threads + Wait + Sync>(
     watch: &Watch,
     seats: &mut [Seat<J>],
 )
-    requires seats { All (λ seat. (seat.hand.of ≡ Some net.now.queue) × Worked J.start net.now.quantum seat.slips) seats.old }
+    requires seats { All (λ seat. (seat.hand.of ≡ Some net.now.queue) × Worked J.start net.now.quantum (length seat.answers) seat.slips × (seat.heed ≡ Heed.Unbroken)) seats.old }
     ensures count { length seats.new ≡ length seats.old }
-    ensures seats { All (λ seat. Worked J.start net.now.quantum seat.slips) seats.new }
+    ensures seats { All (λ seat. Worked J.start net.now.quantum (length seat.answers) seat.slips × (is_heeded seat.heed ≡ true)) seats.new }
 {
     let threads = seats.len().max(1);
     thread::for_each_mut(
@@ -118,8 +121,8 @@ pub(crate) fn work_all<J: Naming + Send + Sync, R: Threads + Wait + Sync>(
         seats,
         threads,
         &|index, seat: &mut Seat<J>|
-            requires { (seat.now.hand.of ≡ Some net.now.queue) × Worked J.start net.now.quantum seat.now.slips }
-            ensures { Worked J.start net.entry.now.quantum seat.exit.now.slips }
+            requires { (seat.now.hand.of ≡ Some net.now.queue) × Worked J.start net.now.quantum (length seat.now.answers) seat.now.slips × (seat.now.heed ≡ Heed.Unbroken) }
+            ensures { Worked J.start net.entry.now.quantum (length seat.exit.now.answers) seat.exit.now.slips × (is_heeded seat.exit.now.heed ≡ true) }
         { work(rt, alloc, net, watch, index > 0, seat) },
     );
     watch.end();

@@ -27,3 +27,4 @@ pub use Rattle.tp_shared.specs.Entries.{AreTakes, IsTurnRefusal, TookAlone}
 pub use Rattle.tp_shared.specs.Gains.{Gained, HoldNoted}
 pub use Rattle.tp_shared.specs.Holds.{InHand}
 pub use Rattle.tp_shared.specs.Seals.{IsTied, Stage}
+pub use Rattle.tp_shared.specs.declared.naming.Naming.{Ghosts}

@@ -1,5 +1,6 @@
 pub mod Lower
 pub mod Answers
+pub mod Heeds
 pub mod Nodes
 pub mod Offers
 pub mod Outputs

@@ -3,6 +3,7 @@
 
 mod confirming;
 mod fault;
+mod heed;
 mod holds;
 mod host_fault;
 mod net;
@@ -16,6 +17,7 @@ mod turn;
 
 pub use confirming::confirm;
 pub use fault::TurnFault;
+pub use heed::Heed;
 pub use host_fault::{ConfirmFault, OfferFault, ShownFault};
 pub use net::Net;
 pub use nodes::nodes_of;

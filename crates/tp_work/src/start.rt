@@ -4,6 +4,7 @@ ghost use Rattle.std.specs.Prelude.{◌≡◌, ◌<◌, ◌≤◌, [], All, IfOk
 ghost use Rattle.tp_work.specs.Lower.{MAX_STEPS, IsNew, frozen_in, Names, told_of};
 ghost use Rattle.tp_work.specs.declared.start.TheConstants.{MAX_SEATS};
 
+use crate::heed::Heed;
 use crate::net::Net;
 use crate::seat::Seat;
 use std::alloc::{AllocError, Global};
@@ -19,7 +20,7 @@ pub const MAX_SEATS: u8 = 32;
 /// The most workers of a run, each at a seat of its own.
 pub const MAX_WORKERS: u8 = 16;
 
-// Makes a seat without a slip for each hand, while nothing is shared yet.
+// Makes a seat without a slip or turn for each hand, while nothing is shared yet.
 fn seats_of<J: Naming>(
     alloc: Global,
     shared: &mut Shared<J>,
@@ -28,6 +29,7 @@ fn seats_of<J: Naming>(
     ensures count { IfOk result (λ seats. vec_len seats ≡ vec_len hands) }
     ensures hands { IfOk result (λ seats. map (λ seat. seat.hand) seats.items ≡ hands.items) }
     ensures slips { IfOk result (λ seats. All (λ seat. seat.slips ≡ []) seats.items) }
+    ensures idle { IfOk result (λ seats. All (λ seat. (seat.answers ≡ []) × (seat.heed ≡ Heed.Unbroken)) seats.items) }
 {
     let mut seats = Vec::new(alloc);
     for hand in hands {
@@ -37,6 +39,8 @@ fn seats_of<J: Naming>(
             slips: shared.seat(),
             seen: Sights::new(),
             runs: Runs::new(alloc)?,
+            made: 0,
+            heed: Heed::Unbroken,
         })?;
     }
     Ok(seats)
@@ -62,6 +66,7 @@ impl<J: Naming, G: Gate + Drop> Net<J, G> {
         ensures count { IfOk result (λ started. (vec_len started.1 ≡ seats) × (started.0.queue.hands ≡ seats)) }
         ensures seats { IfOk result (λ started. All (λ seat. (seat.hand.of ≡ Some started.0.queue) × (seat.slips ≡ [])) started.1.items) }
         ensures new { IfOk result (λ started. All (λ seat. IsNew seat.hand.past) started.1.items) }
+        ensures idle { IfOk result (λ started. All (λ seat. (seat.answers ≡ []) × (seat.heed ≡ Heed.Unbroken)) started.1.items) }
         ensures key { IfOk result (λ started. (started.2.name ≡ J.flusher) × (started.2.value ≡ told_of J.before J.first (record { book = parts.book; all = []; numbered_from = J.first; frozen = frozen_in parts.seals }))) }
         ensures host { IfOk result (λ started. started.3 ≡ []) }
     {

@@ -85,6 +85,9 @@ pub use_up-flusher-requires-clause-seats : goal.use_up-flusher-requires-clause-s
 use_up-flusher-requires-clause-seats g c κs within =
     subst (λ queue. All (λ seat. (seat.hand.of ≡ Some queue) × (seat.slips ≡ [])) c.in-Ok.seats.items) (sym c.seat-host.ensures.same.1) c.in-Ok.ensures.seats
 
+pub use_up-flusher-requires-clause-idle : goal.use_up-flusher-requires-clause-idle
+use_up-flusher-requires-clause-idle g c κs within = c.in-Ok.ensures.idle
+
 pub use_up-flusher-requires-clause-first : goal.use_up-flusher-requires-clause-first
 use_up-flusher-requires-clause-first g c κs within = ap (λ (u : Outset). u.next) c.requires.outset ∙ sym c.requires.stands.first ∙ c.requires.names.first_is
 

@@ -1,4 +1,4 @@
-use Rattle.std.proofs.Common.{◌≡◌, ◌≤◌, ℕ, ◌++◌, inl, inr, Err, rules, refl, sym, ap, subst, ◌∙◌, arith}
+use Rattle.std.proofs.Common.{◌≡◌, ◌≤◌, ℕ, ◌++◌, length, inl, inr, Err, rules, refl, sym, ap, subst, ◌∙◌, arith}
 use Rattle.std.specs.Prelude.{IfOk, flat_map, IfErr}
 use Rattle.tp_run.proofs.Lower.{IfOk-weaker, Began, Flushing, Walked, position, ReceiptValue, walked_then, AreAll, Seat}
 use Rattle.tp_run.specs.declared.fault.RunFault.TheVariants.{FlushFailed, LastFlushFailed}
@@ -6,9 +6,10 @@ use Rattle.tp_run.specs.Failures.{CountsFailures, has_failed}
 use Rattle.tp_run.specs.Faults.{ComesBehind, IsSilent}
 use Rattle.tp_run.specs.Prints.{MayBeSilent}
 use Rattle.tp_run.specs.Ran.{Settled}
+use Rattle.tp_run.specs.Rested.{LeadsToRest}
 use Rattle.tp_run.specs.Shown.{LeadsToOutputs, MayPrint}
 use Rattle.tp_run.proofs.Shown.{done_as, done_says, fault_of, fault_says, may_print, may_print_last, shows_on, walked_reached}
-use Rattle.tp_run.proofs.Gathered.{accounted_for, all_settled}
+use Rattle.tp_run.proofs.Gathered.{accounted_for, all_settled, if_and}
 use Rattle.tp_run.proofs.Failures.{failures_then}
 use Rattle.tp_run.proofs.Faults.{flush_behind, flush_ends, flush_prints, flush_silent, last_said, late_behind, late_behind_of, late_said, late_unfailed, late_unfailed_of}
 use Rattle.tp_run.proofs.Premise.{same_premise}
@@ -125,10 +126,19 @@ returns-clause-settled g c k began =
     let S = c.settle.ensures in
     let last = subst (Began start g.J.Naming.before) (sym c.flush_upto-2.ensures.process.opened) later in
     subst (λ (f : Flushing). IfOk c.settle.result (Settled start g.J.Naming.start c.args.job c.args.outset c.args.host was now f.world.journal)) (sym S.same)
-    (all_settled c.settle.result next _ _ S.next (S.all k last)
+    (all_settled c.settle.result next _ _ S.next (if_and c.settle.result _ _ (S.all k last) S.turns)
     (λ all. host_settled start g.J.Naming.start c.args.job c.args.outset _ was now two.world.journal next c.args.host host c.args.key.now c.print.new.key c.in_ok-confirmed.confirmed O shows c.number-next.ensures (S.stand k last)
-    (accounted_for g.J.Naming.start c.args.job two.world.journal c.args.outset.next next (λ (seat : Seat g.row.J.Denot). seat.slips) c.args.seats.items host
-    (sym c.args.seats.ok.0 ∙ c.requires.count) c.requires.seats (subst (λ n. AreAll n next two.world.journal (host ++ flat_map (λ (seat : Seat g.row.J.Denot). seat.slips) c.args.seats.items)) (sym c.requires.first) all))))
+    (accounted_for g.J.Naming.start c.args.job two.world.journal c.args.outset.next next (λ (seat : Seat g.row.J.Denot g.J.Naming). length seat.answers) (λ (seat : Seat g.row.J.Denot g.J.Naming). seat.slips) c.args.seats.items host
+    (sym c.args.seats.ok.0 ∙ c.requires.count) all.1 c.requires.seats (subst (λ n. AreAll n next two.world.journal (host ++ flat_map (λ (seat : Seat g.row.J.Denot g.J.Naming). seat.slips) c.args.seats.items)) (sym c.requires.first) all.0))))
+
+pub returns-clause-rest : goal.returns-clause-rest
+returns-clause-rest g c k began =
+    let again = same_premise c.settle.ensures.same k in
+    let start = g.J.Naming.formatted in
+    let there = subst (Began start g.J.Naming.before) (sym c.flush_upto.ensures.process.opened) began in
+    let later = subst (λ (f : Flushing). Began start g.J.Naming.before f.opened) (sym c.print.ensures.same) there in
+    let last = subst (Began start g.J.Naming.before) (sym c.flush_upto-2.ensures.process.opened) later in
+    subst (λ (f : Flushing). IfOk c.settle.result (λ next. LeadsToRest start f.world.journal next c.settle.new.rest)) (sym c.settle.ensures.same) (c.settle.ensures.rest k last)
 
 -- ## What is handed in
 

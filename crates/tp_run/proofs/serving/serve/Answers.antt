@@ -4,11 +4,12 @@ use Rattle.tp_run.proofs.Lower.{Seat, Began, walked_nowhere, walked_then}
 use Rattle.tp_run.specs.Failures.{is_failure, has_failed}
 use Rattle.tp_run.specs.Input.{input_slips, rest_at}
 use Rattle.tp_run.specs.Ran.{Settled}
-use Rattle.tp_run.specs.Worked.{Worked, idle}
+use Rattle.tp_run.specs.Worked.{Worked}
 use Rattle.tp_run.proofs.Failures.{counted, failures_then, uncounted}
 use Rattle.tp_run.proofs.Faults.{behind_begun_of, behind_unrefused_of, offer_begun, offer_silent, offer_unfailed}
 use Rattle.tp_run.proofs.HandedOver.{hands_in}
 use Rattle.tp_run.proofs.Shown.{may_print_since}
+use Rattle.tp_run.proofs.Worked.{none_yet}
 use Rattle.tp_run.proofs.serving.serve.Goals as goal
 
 pub returns-in-Err-clause-walks : goal.returns-in-Err-clause-walks
@@ -34,6 +35,9 @@ returns-clause-shown g c k began =
     may_print_since g.J.Naming.formatted c.args.flusher c.work-flusher.result.0 c.finish-done.new.flusher (c.known.ensures.reached (c.work-flusher.ensures.premise worked) began) (c.work-flusher.ensures.walks worked began)
     (c.finish-done.ensures.walks k there) c.args.outset.port c.args.outset.confirmed (g.O.Outlet.value c.args.out.now) (g.O.Outlet.value c.finish-done.new.out) c.finish-done.result (c.finish-done.ensures.shown k there)
 
+pub returns-clause-rest : goal.returns-clause-rest
+returns-clause-rest g c k began = c.finish-done.ensures.rest k (subst (Began g.J.Naming.formatted g.J.Naming.before) (sym c.work-flusher.ensures.process.opened) began)
+
 -- ## What is handed in
 
 pub returns-in-Err-clause-handed : goal.returns-in-Err-clause-handed
@@ -51,11 +55,12 @@ returns-clause-handed g c k began =
 pub work-flusher-requires-clause-seats : goal.work-flusher-requires-clause-seats
 work-flusher-requires-clause-seats g c κs within k d below =
     let seat = c.requires.seats k d below in
-    (seat.0, subst (Worked g.J.Naming.start c.args.net.now.quantum) (sym seat.1) idle)
+    let new = c.requires.idle k d below in
+    (seat.0, none_yet g.J.Naming.start c.args.net.now.quantum seat.1 new.0, new.1)
 
 pub finish-done-requires-clause-seats : goal.finish-done-requires-clause-seats
 finish-done-requires-clause-seats g c =
-    subst (λ quantum. All (λ (seat : Seat g.row.J.Denot). Worked g.J.Naming.start quantum seat.slips) c.work-flusher.result.1.items) c.requires.quantum c.work-flusher.ensures.seats
+    subst (λ quantum. All (λ (seat : Seat g.row.J.Denot g.J.Naming). Worked g.J.Naming.start quantum (length seat.answers) seat.slips) c.work-flusher.result.1.items) c.requires.quantum c.work-flusher.ensures.seats
 
 -- ## Which faults come here, and how many calls of the device have failed
 
