@@ -31,3 +31,10 @@ pub record IsRestAt (b : BookValue) (i : ℕ) (rest : Rest) : Type 0 where
   pub node : NodeState
   pub there : slice_get (world_of b).live.nodes i ≡ Some node
   pub is : rest ≡ rest_of node
+
+-- Some node of a network has halted.
+pub record HasHalted (s : Network NodeState) : Type 0 where
+  pub number : ℕ
+  pub node : NodeState
+  pub there : slice_get s.nodes number ≡ Some node
+  pub is : rest_of node ≡ Halted

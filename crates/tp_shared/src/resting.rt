@@ -1,8 +1,8 @@
 //! What is left to do in the network as it is.
 
-ghost use Rattle.std.specs.Prelude.{◌≡◌, ◌<◌, ◌%◌, if◌then◌else◌, length};
+ghost use Rattle.std.specs.Prelude.{◌≡◌, ◌<◌, ◌%◌, true, if◌then◌else◌, length};
 ghost use Rattle.tp_shared.specs.Lower.{world_of, plain_network};
-ghost use Rattle.tp_shared.specs.Resting.{IsRestAt, rest_in};
+ghost use Rattle.tp_shared.specs.Resting.{HasHalted, IsRestAt, rest_in};
 ghost use Rattle.tp_shared.specs.Rows.{IsInRow};
 ghost use Rattle.tp_shared.specs.declared.cells.TheConstants.{CELLS};
 
@@ -84,5 +84,17 @@ impl<J: Naming> Shared<J> {
             }
         }
         rest_of(have_halted, held.book().is_clear())
+    }
+    /// Whether a node has halted in the network as it is. It changes nothing, and takes locks as `rest` does.
+    pub fn has_halted<R: Wait>(&self, rt: &R, held: &mut Locked<J>) -> bool
+        ensures same { held.new ≡ held.old }
+        ensures halted { result ≡ true → HasHalted (plain_network (world_of held.old.book).live) }
+    {
+        for number in 0..self.nodes() {
+            if let Rest::Halted = self.rest_at(rt, held, number) {
+                return true;
+            }
+        }
+        false
     }
 }

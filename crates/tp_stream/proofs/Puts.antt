@@ -1,7 +1,7 @@
 -- What steps put of outputs, under the book's lock.
 use Rattle.std.proofs.Common.{◌≡◌, ℕ, zero, suc, ◌+◌, ◌-◌, ◌≤◌, ◌<◌, inl, inr, true, List, [], ◌∷◌, ◌++◌, length, take, drop, set, get_or, refl, sym, ap, subst, ◌∙◌, arith, append-nil, length-append}
 use Rattle.tp_stream.proofs.Lower.{drop-drop, take_all, NodeState, t414, Network, Port, plain_network, after, World, BookValue, next_in_book, world_of, port_in, shown_from, shown_of, IsAheadOf, HasPut, WasPutSafely, OutputValue, none_put, Ending}
-use Rattle.tp_stream.specs.Put.{EachWith, EndsPut, LeadsToBytes, are_put, port_or_fresh}
+use Rattle.tp_stream.specs.Put.{EachWith, EndsPut, HasHaltedAs, LeadsToBytes, are_put, port_or_fresh}
 use Rattle.tp_stream.specs.Steps.{AreLeft, Extends, IsPartConfirmed, PutsLeft, PutsShown, PortsStand}
 
 -- ## Bytes of one output
@@ -83,11 +83,11 @@ stands_left start w b c S left = record {
 
 -- all of them do, to its ports as a stream ends
 pub ends_put : (start : Network NodeState) (w : World NodeState) (b : BookValue) → IsAheadOf start w b → next_in_book b ≤ w.mark → (why : Ending) (outputs : List OutputValue)
-    → are_put why (port_in b) outputs ≡ true → EndsPut start w.journal why outputs
-ends_put start w b A stored why outputs put =
+    → are_put why (port_in b) outputs ≡ true → HasHaltedAs why (plain_network (world_of b).live) → EndsPut start w.journal why outputs
+ends_put start w b A stored why outputs put halted =
     let all = all_in_journal start w b A stored in
     let whole : w.journal ≡ w.journal ++ A.more = sym (append-nil w.journal) ∙ ap (λ es. w.journal ++ es) (sym all.0) in
-    record { state = plain_network (world_of b).live; leads = ap (after t414 start) whole ∙ A.leads; each = put }
+    record { state = plain_network (world_of b).live; leads = ap (after t414 start) whole ∙ A.leads; each = put; halted = halted }
 
 -- the first ones of a list are as many as they are
 front_of : (n : ℕ) (xs : List ℕ) → take n xs ≡ take (length (take n xs)) xs

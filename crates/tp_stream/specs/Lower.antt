@@ -5,6 +5,7 @@ pub use Rattle.tp_model.specs.DeviceAreas.{device_areas}
 pub use Rattle.tp_model.specs.Disk.{MayBe}
 pub use Rattle.tp_model.specs.DiskHistory.{IsSynced, LeavesOnly, State, moment}
 pub use Rattle.tp_model.specs.Journal.{is_roomy, reserve, room}
+pub use Rattle.tp_model.specs.Markers.{plain_network}
 pub use Rattle.tp_model.specs.Network.{Network, Port, has_wire}
 pub use Rattle.tp_model.specs.Node.{t414, t414_ends}
 unfoldable pub use Rattle.tp_model.specs.Node.{node_step}
@@ -27,7 +28,7 @@ pub use Rattle.tp_node.specs.declared.run.Why.TheVariants.{Full, Idle, NoFrame}
 pub use Rattle.tp_node.specs.declared.standing.Standing.{Standing}
 pub use Rattle.tp_node.specs.declared.standing.Standing.TheVariants.{Free, Halted as NodeHalted, Waits as NodeWaits}
 pub use Rattle.tp_book.specs.Acts.{confirm_entries}
-pub use Rattle.tp_book.specs.Book.{BookValue, count_of_nodes, next_in_book, outputs_of, reserved}
+pub use Rattle.tp_book.specs.Book.{BookValue, count_of_nodes, next_in_book, outputs_of, reserved, world_of}
 pub use Rattle.tp_book.specs.Counted.{AreCounted}
 pub use Rattle.tp_book.specs.Host.{accepted_of, after_confirm, after_inputs, port_in, room_of, shown_from, shown_upto_of}
 pub use Rattle.tp_book.specs.Marked.{after_begin}
@@ -49,6 +50,7 @@ pub use Rattle.tp_shared.specs.BytesIn.{bytes_in}
 pub use Rattle.tp_shared.specs.Gains.{HoldNoted}
 pub use Rattle.tp_shared.specs.Holds.{InHand}
 pub use Rattle.tp_shared.specs.Named.{Names}
+pub use Rattle.tp_shared.specs.Resting.{HasHalted}
 pub use Rattle.tp_shared.specs.Seals.{Stage}
 pub use Rattle.tp_shared.specs.TurnsMade.{HostTurnMade, TurnMade}
 pub use Rattle.tp_shared.specs.declared.node_turn.NodeTurn.{NodeTurn}

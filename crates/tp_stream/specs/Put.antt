@@ -1,6 +1,6 @@
 -- Which outputs were put into sinks, by the journal. "The network to which entries lead" is the one that they make of the network at the start.
 use Rattle.std.specs.Prelude.{◌≡◌, ◌⊎◌, ◌≤◌, ℕ, ◌+◌, ◌-◌, ◌==◌, Bool, true, ◌&&◌, nat_le, List, [], ◌∷◌, ◌++◌, length, map, get_or, take, drop, Result, Ok, Some, IfOk}
-use Rattle.tp_stream.specs.Lower.{list_all, Entry, NodeState, t414, Network, Port, after, LeavesOnly, State, moment, device_areas, Opened, next_of, verdict, RecoversTo, fresh_value, HasPut, OutputValue, given_of, Ended, Ending, Quiet, Turns, Gone, Halted, Stopped, GivenInput}
+use Rattle.tp_stream.specs.Lower.{HasHalted, list_all, Entry, NodeState, t414, Network, Port, after, LeavesOnly, State, moment, device_areas, Opened, next_of, verdict, RecoversTo, fresh_value, HasPut, OutputValue, given_of, Ended, Ending, Quiet, Turns, Gone, Halted, Stopped, GivenInput}
 use Rattle.tp_stream.specs.declared.fault.StreamFault.{StreamFault}
 use Rattle.tp_stream.specs.HandedFrom.{AreHandedFrom}
 use Rattle.tp_stream.specs.Standing.{accepted_opened, from_of, stands_opened}
@@ -83,11 +83,20 @@ is_put Stopped port next = nat_le port.out_base next
 abbrev pub are_put : Ending → (ℕ → Port) → List OutputValue → Bool
 are_put why ports outputs = list_all (λ (o : OutputValue). is_put why (ports o.port) o.next) outputs
 
--- That is true of each output in the network to which all of the journal leads.
+-- if the stream ends by a halt, a node of the network has halted
+abbrev pub HasHaltedAs : Ending → Network NodeState → Type 0
+HasHaltedAs Quiet s = Unit {0}
+HasHaltedAs Turns s = Unit {0}
+HasHaltedAs Gone s = Unit {0}
+HasHaltedAs Halted s = HasHalted s
+HasHaltedAs Stopped s = Unit {0}
+
+-- That is true of each output in the network to which all of the journal leads. If the stream ends by a halt, a node has halted in that network.
 pub record EndsPut (start : Network NodeState) (journal : List Entry) (why : Ending) (outputs : List OutputValue) : Type 0 where
   pub state : Network NodeState
   pub leads : after t414 start journal ≡ Some state
   pub each : are_put why (port_or_fresh state) outputs ≡ true
+  pub halted : HasHaltedAs why state
 
 -- What a stream leaves, and what its sinks got by that journal. If the answer says so, they got all outputs. Or no sink has changed. All that the journal
 -- hands to ports since the opening comes from the stream's inputs.

@@ -1,9 +1,9 @@
 //! Flushes of a stream.
 
-ghost use Rattle.std.specs.Prelude.{◌≡◌, ◌≤◌, false, length, IfOk, IfErr};
-ghost use Rattle.tp_stream.specs.Lower.{AreTrue, WereTrue, Resting, Began, IsSameProcess, Walked};
+ghost use Rattle.std.specs.Prelude.{◌≡◌, ◌≤◌, true, false, length, IfOk, IfErr};
+ghost use Rattle.tp_stream.specs.Lower.{AreTrue, WereTrue, Resting, Began, IsSameProcess, Walked, plain_network, world_of};
 ghost use Rattle.tp_stream.specs.Failures.{FailedWhere, answer_failed, flushing_fault};
-ghost use Rattle.tp_stream.specs.Put.{EndsPut};
+ghost use Rattle.tp_stream.specs.Put.{EndsPut, HasHaltedAs};
 ghost use Rattle.tp_stream.specs.Streamed.{CameOfFlush};
 
 use crate::fault::StreamFault;
@@ -47,9 +47,28 @@ pub(crate) fn flush<J: Naming, D: Disk, R: Wait>(
     }
 }
 
+/// Whether a node has halted, if a stream that ends as `why` says ends by that. The book's lock is held, and no other thread makes turns.
+fn has_halted_as<J: Naming, R: Wait>(
+    rt: &R,
+    shared: &Shared<J>,
+    held: &mut Locked<J>,
+    why: Ending,
+) -> bool
+    ensures same { held.new ≡ held.old }
+    ensures halted { result ≡ true → HasHaltedAs why (plain_network (world_of held.old.book).live) }
+{
+    match why {
+        Ending::Halted => shared.has_halted(rt, held),
+        Ending::Quiet | Ending::Turns | Ending::Gone | Ending::Stopped => true,
+    }
+}
+
 /// Gives the number that the next entry gets, under the book's lock. Fails with `NotStored` unless the flusher has stored all entries below that
-/// number, and no output is left that a stream has to put if it ends as `why` says. Its journal then has no more entries.
-fn last_under<J: Naming, D: Disk, S: Sink>(
+/// number, no output is left that a stream has to put if it ends as `why` says, and a node has halted if that is why it ends. Its journal then has no
+/// more entries.
+fn last_under<J: Naming, D: Disk, S: Sink, R: Wait>(
+    rt: &R,
+    shared: &Shared<J>,
     held: &mut Locked<J>,
     flusher: &mut Flusher<J, D>,
     why: Ending,
@@ -69,6 +88,9 @@ fn last_under<J: Naming, D: Disk, S: Sink>(
         return Err(StreamFault::NotStored);
     }
     if !are_put(why, held.book(), outputs) {
+        return Err(StreamFault::NotStored);
+    }
+    if !has_halted_as(rt, shared, held, why) {
         return Err(StreamFault::NotStored);
     }
     Ok(next)
@@ -91,11 +113,12 @@ fn last_of<J: Naming, D: Disk, S: Sink, R: Wait>(
     ensures begun { IfErr result CameOfFlush }
 {
     let mut held = shared.book().lock(rt);
-    last_under(&mut held, flusher, why, outputs)
+    last_under(rt, shared, &mut held, flusher, why, outputs)
 }
 
-/// Makes the last flush. Answers the number that the next entry gets. All entries below it are then stored, the flusher's journal has no more, and no
-/// output is left that a stream has to put if it ends as `why` says. Fails with `NotStored` if that isn't so, or as the flush fails.
+/// Makes the last flush. Answers the number that the next entry gets. All entries below it are then stored, the flusher's journal has no more, no
+/// output is left that a stream has to put if it ends as `why` says, and a node has halted if that is why it ends. Fails with `NotStored` if that
+/// isn't so, or as the flush fails.
 pub(crate) fn finish<J: Naming, D: Disk, S: Sink, R: Wait>(
     rt: &R,
     alloc: Global,

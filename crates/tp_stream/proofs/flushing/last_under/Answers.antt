@@ -28,3 +28,4 @@ returns-clause-put g c k began =
     let stored : next_in_book b ≤ f.world.mark = let test = c.if-mark-next.false in omega (arith, mark, next, test) in
     ends_put start f.world b ahead stored c.args.why c.args.outputs.now
     (subst (λ (b : BookValue). are_put c.args.why (port_in b) c.args.outputs.now ≡ true) c.book-2.ensures (c.are_put.ensures c.if-not-are_put.false))
+    (c.has_halted_as.ensures.halted c.if-not-has_halted_as.false)
