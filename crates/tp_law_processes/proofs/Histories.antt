@@ -8,6 +8,7 @@ use Rattle.tp_law_processes.specs.OneHistory.{HasPlace, OneHistory, OpensAfter}
 use Rattle.tp_law_processes.proofs.Accepted.{accepted_alike, accepted_is, accepted_then}
 use Rattle.tp_law_processes.proofs.FreshPorts.{none_arrived}
 use Rattle.tp_law_processes.proofs.Joined.{after_joined, get_dropped, get_high, get_low, joined, length_joined, take_high, take_low, take_parts}
+use Rattle.tp_law_processes.proofs.Makers.{maker, may_confirm}
 use Rattle.tp_law_processes.proofs.Parts.{shown_part}
 use Rattle.tp_law_processes.proofs.Shows.{IsShowing, facts, hands}
 use Rattle.tp_law_processes.proofs.Stops.{IsIdle, answer_stands, least_is, shown_recovers, stopped}
@@ -44,6 +45,7 @@ record Placed (start : Network NodeState) (journal : List Entry) (least : ℕ) (
   shown : AllByRecursion (λ x. x.there ≤ p.at → IsShownIn start journal number x) (showings start p.old p.new p.did)
   acknowledged : Acknowledged start journal number p
   handed : Handed start journal number upto p
+  own : (k : ℕ) → number ≤ k → k < upto → slice_get journal k ≡ slice_get (journal_of p.did) k
 
 -- one journal for all, which leads to what opens first where that says
 record Whole (start : Network NodeState) (was : List ℕ) (o : Opened) (processes : List (Process start)) : Type 0 where
@@ -96,6 +98,7 @@ idle_whole start p o processes reads I W =
           shown = all_weaker _ _ (showings start p.old p.new p.did) (λ x later by. absurd (omega (arith, later, by))) I.none;
           acknowledged = λ ended k from below. let none = I.silent ended in absurd (omega (arith, none, below));
           handed = λ k port byte from below there. absurd (omega (arith, from, below));
+          own = λ k from below. absurd (omega (arith, from, below));
         },
         W.each,
       );
@@ -200,6 +203,7 @@ module _ (start : Network NodeState) (p : Process start) (o : Opened) (F : Follo
             let number = at.0 in
             get_low k m own W.journal (omega (arith, below, most, number)) there W.first;
         handed = own_handed;
+        own = λ k from below. get_low k m own W.journal below there W.first;
       }
 
   opens_later : (k : ℕ) (bytes : List ℕ) → m ≤ k → k ≤ length W.journal → OpensAfter start (take k W.journal) bytes → OpensAfter start (take k whole_journal) bytes
@@ -249,6 +253,7 @@ module _ (start : Network NodeState) (p : Process start) (o : Opened) (F : Follo
         shown = all_weaker _ _ (showings start q.old q.new q.did) (λ x S by. later_shown P.number from x (S by)) P.shown;
         acknowledged = λ ended k up below. get_high k m own W.journal (omega (arith, from, up)) there W.first ∙ P.acknowledged ended k up below;
         handed = later_handed q P;
+        own = λ k up below. get_high k m own W.journal (omega (arith, from, up)) there W.first ∙ P.own k up below;
       }
 
   next_whole : Whole start p.old.now.bytes o (p ∷ processes)
@@ -297,6 +302,15 @@ whole start before was o began reads (p ∷ processes) order =
     ] in
     subst (λ bytes. Whole start bytes o (p ∷ processes)) order.0 made
 
+-- the process opened with the number of the first entries
+first_is : {least k : ℕ} (start : Network NodeState) (journal : List Entry) (p : Process start) (P : Placed start journal least p) → P.number ≤ k → next_of P.found.opened ≤ k
+first_is start journal p P from =
+    let onward = P.onward in
+    let few = P.few in
+    let count = P.found.count in
+    let long = length-take-le P.number journal (omega (arith, onward, few)) in
+    omega (arith, long, count, from)
+
 pub one_history : (start : Network NodeState) (before : World NodeState) (was : List ℕ) → Began start before was → (processes : List (Process start)) → AreInOrder start was processes
     → OneHistory start was processes
 one_history start before was began processes order =
@@ -316,6 +330,9 @@ one_history start before was began processes order =
                 (λ x S by. let I = S by in shown_part start R.first R.formatted W.journal I.number x.port x.from x.bytes I.shows) P.shown;
             acknowledged = P.acknowledged;
             handed = P.handed;
+            confirmed = λ k port to from below is. may_confirm start p.old p.new p.did P.found.opened P.found.reads k port to (first_is start W.journal p P from) (sym (P.own k from below) ∙ is);
+            made = λ ended k e from below is.
+                maker start p.old p.new p.did P.found.opened P.found.reads k e (first_is start W.journal p P from) below (sym (P.acknowledged ended k from below) ∙ is);
           }) W.each;
       left = W.left;
       world = W.world;

@@ -6,6 +6,7 @@ mod Handing
 mod Histories
 mod Inputs
 mod Joined
+mod Makers
 mod OneInput
 mod Outputs
 mod Parts

@@ -4,7 +4,8 @@ pub use Rattle.std.proofs.lemmas.Bool.{and_parts, cases_eq, cases_lt, leb-true, 
 pub use Rattle.std.proofs.lemmas.Grind.{flat_map-append}
 pub use Rattle.std.proofs.lemmas.List.{drop_all, get_or_past, length-take-le, nil_from_length, take-append-drop, take-append-le, take-take, take_all}
 pub use Rattle.std.proofs.lemmas.Option.{cond_some, get_or_from_slice_get, slice_get_cases, slice_get_within}
-pub use Rattle.std.specs.List.{AllByRecursion}
+pub use Rattle.std.specs.Io.KnownBytes.{Appends}
+pub use Rattle.std.specs.List.{AllByRecursion, enumerate_from}
 pub use Rattle.std.specs.Option.{option_map}
 pub use Rattle.tp_model.specs.Areas.{Held, next_number}
 pub use Rattle.tp_model.specs.Counted.{accepted, is_at}
@@ -46,21 +47,25 @@ pub use Rattle.tp_law_device.proofs.Opens.{held_opened, reads_of}
 pub use Rattle.tp_law_device.proofs.ReadCuts.{ports_read}
 pub use Rattle.tp_law_device.proofs.Verdicts.{crash_opens}
 pub use Rattle.tp_book.specs.Ports.{fresh_value}
+pub use Rattle.tp_token.specs.Sound.{add_if, item_of, shown}
 pub use Rattle.tp_shared.proofs.BytesIn.{bytes_in-append, bytes_in-handed, bytes_in-other, bytes_in-same}
 pub use Rattle.tp_shared.specs.BytesIn.{byte_in, bytes_in}
 pub use Rattle.tp_shared.specs.HandedIn.{handed}
 pub use Rattle.tp_flush.proofs.Follows.{held_is, now_is, number_is, read_alone}
+pub use Rattle.tp_flush.specs.All.{AreAll}
 pub use Rattle.tp_flush.specs.Follows.{Follows}
 pub use Rattle.tp_flush.specs.Known.{Began}
 pub use Rattle.tp_flush.specs.Settled.{HasFront}
 pub use Rattle.tp_stream_files.specs.Outputs.{OutputValue, given_of}
 pub use Rattle.tp_run.specs.HandedOver.{HandsIn}
-pub use Rattle.tp_run.specs.Input.{input_entries}
+pub use Rattle.tp_run.specs.Input.{input_entries, input_slips}
 pub use Rattle.tp_run.specs.Outlet.{OutletValue}
 pub use Rattle.tp_run.specs.Output.{confirms}
 pub use Rattle.tp_run.specs.Outset.{outset_in}
-pub use Rattle.tp_run.specs.Ran.{IsCalled}
+pub use Rattle.tp_run.specs.Ran.{IsCalled, output_slips}
 pub use Rattle.tp_run.specs.Shown.{LeadsToOutputs}
+pub use Rattle.tp_run.specs.Worked.{Worked}
 pub use Rattle.tp_run.specs.declared.fault.RunFault.{RunFault}
+pub use Rattle.tp_stream.specs.Confirmed.{AreConfirmsPut, ConfirmsPut, WasPutUpto}
 pub use Rattle.tp_stream.specs.HandedFrom.{HasByte}
 pub use Rattle.tp_stream.specs.Put.{ArePut, AreShown, EachWith, Got, LeadsToBytes, PutPiece, port_or_fresh}

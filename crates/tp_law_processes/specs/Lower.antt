@@ -1,4 +1,5 @@
 -- What definitions and contracts here name of the crates below.
+pub use Rattle.std.specs.Io.KnownBytes.{Appends}
 pub use Rattle.std.specs.List.{AllByRecursion}
 pub use Rattle.tp_model.specs.Counted.{is_at}
 pub use Rattle.tp_model.specs.DeviceAreas.{device_areas}
@@ -24,10 +25,13 @@ pub use Rattle.tp_run.specs.Compacted.{Compacted}
 pub use Rattle.tp_run.specs.Outlet.{OutletValue}
 pub use Rattle.tp_run.specs.Outset.{outset_in}
 pub use Rattle.tp_run.specs.Ran.{IsCalled, RanInto}
+pub use Rattle.tp_run.specs.Worked.{Worked}
 pub use Rattle.tp_run.specs.declared.compacting.CompactFault.{CompactFault}
 pub use Rattle.tp_run.specs.declared.compacting.Compaction.{Compaction}
 pub use Rattle.tp_run.specs.declared.fault.RunFault.{RunFault}
 pub use Rattle.tp_run.specs.declared.job.Job.{Job}
+pub use Rattle.tp_stream.specs.Accounted.{MadeByTurns}
+pub use Rattle.tp_stream.specs.Confirmed.{WasPutUpto}
 pub use Rattle.tp_stream.specs.HandedFrom.{CameFrom}
 pub use Rattle.tp_stream.specs.Put.{AreShown, EachWith, Got, PutPiece, StreamedInto, port_or_fresh}
 pub use Rattle.tp_stream.specs.Standing.{from_of, stands_opened}

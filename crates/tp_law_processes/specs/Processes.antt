@@ -1,7 +1,7 @@
 -- Processes over one device, one after the other: what each did by the clause of its call, what it showed, and what it acknowledged.
 use Rattle.std.specs.Prelude.{◌≡◌, ◌≤◌, ◌⊎◌, ℕ, ◌+◌, List, [], ◌∷◌, ◌++◌, length, map, Option, Some, None, Result, Ok, Err, slice_get}
 use Rattle.std.proofs.Common.{inl, inr}
-use Rattle.tp_law_processes.specs.Lower.{Entry, NodeState, Network, IsSynced, MayHaveLeft, State, moment, Opened, next_of, LeavesNothingNew, CompactFault, Compaction, RunFault, Job, Compacted, OutletValue, outset_in, IsCalled, RanInto, OutputValue, given_of, Ended, StreamFault, CameFrom, GivenInput, AreShown, EachWith, Got, PutPiece, StreamedInto, from_of, stands_opened}
+use Rattle.tp_law_processes.specs.Lower.{Entry, NodeState, Network, IsSynced, MayHaveLeft, State, moment, Opened, next_of, LeavesNothingNew, CompactFault, Compaction, RunFault, Job, Compacted, OutletValue, outset_in, IsCalled, RanInto, OutputValue, given_of, Ended, StreamFault, CameFrom, GivenInput, AreShown, EachWith, Got, PutPiece, StreamedInto, from_of, stands_opened, Confirm, HostIn, Run, Take, Turn, Appends, Worked, MadeByTurns, WasPutUpto}
 use Rattle.tp_law_processes.specs.Inputs.{IsFrontOf}
 
 -- What a process did between two states of its device, by the clause of its call: a run, a stream, a compaction, or a call that wrote nothing.
@@ -35,6 +35,37 @@ MayHand (ByRun job input was now result clause) port at byte = (port ≡ job.por
 MayHand (ByStream inputs result was now clause) port at byte = CameFrom inputs port at byte
 MayHand (ByCompaction result clause) port at byte = ⊥
 MayHand (ByReading clause) port at byte = ⊥
+
+-- A process confirms no more of a port's outputs than it showed: a run's outlet took them, all up to this position, or a stream put them. A compaction
+-- and a reading confirm nothing.
+abbrev pub MayConfirm : {start : Network NodeState} {old new : State} → Did start old new → Opened → (port upto : ℕ) → Type 0
+MayConfirm (ByRun job input was now result clause) opened port upto =
+    (port ≡ job.port) × ((printed : List ℕ) × Appends was.taken now.taken printed × (upto ≡ (outset_in opened port).confirmed + length printed))
+MayConfirm (ByStream inputs result was now clause) opened port upto = WasPutUpto now port upto
+MayConfirm (ByCompaction result clause) opened port upto = ⊥
+MayConfirm (ByReading clause) opened port upto = ⊥
+
+-- a byte for a port, or that the host has outputs
+abbrev pub IsHosts : Entry → Type 0
+IsHosts (Run i k) = ⊥
+IsHosts (Take line token) = ⊥
+IsHosts (HostIn p x) = Unit {0}
+IsHosts (Confirm p upto) = Unit {0}
+IsHosts (Turn i links k) = ⊥
+
+-- An entry with this number is among these slips.
+abbrev pub IsAmong : ℕ → Entry → List (ℕ × Entry) → Type 0
+IsAmong number e slips = (place : ℕ) × (slice_get slips place ≡ Some (number, e))
+
+-- The host of a process made the entry with this number, or a turn of a node or of the host did: it is among the slips of a run's worker, which has
+-- made so many turns, or of a stream's turns. A compaction that was done, and a reading, make no entry.
+abbrev pub HasMaker : {start : Network NodeState} {old new : State} → Did start old new → Opened → ℕ → Entry → Type 0
+HasMaker (ByRun job input was now result clause) opened number e =
+    IsHosts e ⊎ ((worker : ℕ × List (ℕ × Entry)) × Worked opened.cut job.quantum worker.0 worker.1 × IsAmong number e worker.1)
+HasMaker (ByStream inputs result was now clause) opened number e =
+    IsHosts e ⊎ ((slips : List (ℕ × Entry)) × MadeByTurns opened.cut slips × IsAmong number e slips)
+HasMaker (ByCompaction result clause) opened number e = ⊥
+HasMaker (ByReading clause) opened number e = ⊥
 
 -- the whole input is known, and a front of `all`
 abbrev pub IsKnownFront : List ℕ → Option (List ℕ) → Type 0

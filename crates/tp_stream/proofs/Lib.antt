@@ -1,4 +1,5 @@
 pub mod Lower
+pub mod Accounted
 pub mod Confirms
 pub mod FailedEnds
 pub mod Failures
@@ -6,6 +7,7 @@ pub mod Fitted
 pub mod Kept
 pub mod Looks
 pub mod Notices
+pub mod Noting
 pub mod Offers
 pub mod HandedFrom
 pub mod Puts

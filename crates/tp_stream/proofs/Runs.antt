@@ -6,23 +6,27 @@ use Rattle.tp_stream.specs.declared.fault.StreamFault.{StreamFault}
 use Rattle.tp_stream.specs.declared.fault.StreamFault.TheVariants.{Opening, Spare, Port, Unnamed, Short, Long, Gone, NotShown, ShortInput, InputFailed, OutputFailed, FlushFailed, NotStored, JournalFull, Memory}
 use Rattle.tp_stream.specs.declared.standing.Standing.{Standing}
 use Rattle.tp_stream.specs.Put.{ArePut, EachWith, EndsPut, Got, PutPiece, ServedInto, StreamedInto, bytes_put}
+use Rattle.tp_stream.specs.Accounted.{Accounted}
+use Rattle.tp_stream.specs.Confirmed.{AreConfirmsPut}
 use Rattle.tp_stream.specs.HandedFrom.{AreHandedFrom}
 use Rattle.tp_stream.specs.Standing.{accepted_opened, from_of, stands_opened}
 use Rattle.tp_stream.specs.Steps.{AllStepped, IsSetOut}
 use Rattle.tp_stream.specs.Streamed.{CameBegun, StaysUnstreamed, Streamed}
 use Rattle.tp_stream.proofs.HandedFrom.{handed_past}
+use Rattle.tp_stream.proofs.Noting.{confirms_past}
 use Rattle.tp_stream.proofs.Puts.{each_same, each_then}
 use Rattle.tp_stream.proofs.Standings.{same_opened}
 use Rattle.tp_stream.proofs.Stepping.{all_got}
 
 -- a device that was opened, and whose flusher walked on from there, with steps of outputs on the way
-pub served : (start : Network NodeState) (before : World NodeState) (o : Opened) (old new : Flushing) (result : Result Ended StreamFault) → Began start before old.state.now.bytes
+pub served : (start network : Network NodeState) (before : World NodeState) (o : Opened) (old new : Flushing) (result : Result Ended StreamFault) → Began start before old.state.now.bytes
     → verdict old.state.now.bytes ≡ Ok o → old.world ≡ reopened before old.state.now.bytes (held_of o) o.now → Reached start old.world → Walked old new
     → IfOk result (λ ended. ended.next ≤ new.world.mark) → IfOk result (λ ended. ended.next ≡ length new.world.journal) → (was now : List OutputValue)
     → AllStepped start old new was now → IfOk result (λ ended. EndsPut start new.world.journal ended.why now)
     → (inputs : List GivenInput) (accepted : ℕ → ℕ) → AreHandedFrom inputs accepted (drop (next_of o) new.world.journal)
-    → ServedInto start (next_of o) inputs accepted result was now old.state new.state
-served start before o old new result began reads first reached W stored last was now stepped ends inputs accepted fed =
+    → AreConfirmsPut now (drop (next_of o) new.world.journal) → IfOk result (λ ended. Accounted network new.world.journal (next_of o) ended.next)
+    → ServedInto start network (next_of o) inputs accepted result was now old.state new.state
+served start network before o old new result began reads first reached W stored last was now stepped ends inputs accepted fed confirms accounted =
     let bytes = old.state.now.bytes in record {
       streamed = record {
         journal = new.world.journal;
@@ -32,6 +36,8 @@ served start before o old new result began reads first reached W stored last was
       };
       outputs = all_got start old new reached (next_of o) (subst (λ n. next_of o ≤ n) (sym (ap (λ (w : World NodeState). w.mark) first ∙ number_is o)) (omega arith)) was now stepped;
       fed = fed;
+      confirms = confirms;
+      accounted = accounted;
       ends = ends;
     }
 
@@ -47,18 +53,22 @@ unput start inputs fault was now old new L same = record {
   streamed = unwritten start fault old new L;
   outputs = inl same;
   fed = λ opened is. handed_past inputs (accepted_opened opened) (next_of opened);
+  confirms = λ opened is. confirms_past now (next_of opened);
+  accounted = λ opened is. tt;
   ends = tt;
 }
 
 -- if nothing was begun, and nothing was put
-pub unserved : (start : Network NodeState) (least : ℕ) (inputs : List GivenInput) (accepted : ℕ → ℕ) (fault : StreamFault) (outputs : List OutputValue) (old : State)
-    → ServedInto start least inputs accepted (Err fault) outputs outputs old old
-unserved start least inputs accepted fault outputs old = record {
+pub unserved : (start network : Network NodeState) (least : ℕ) (inputs : List GivenInput) (accepted : ℕ → ℕ) (fault : StreamFault) (outputs : List OutputValue) (old : State)
+    → ServedInto start network least inputs accepted (Err fault) outputs outputs old old
+unserved start network least inputs accepted fault outputs old = record {
   streamed = record { journal = []; leaves = read_alone start [] old old (none_leaves old); stored = tt; last = tt };
   outputs =
       each_same (λ a b. Got start [] least a.next old old a b)
       (λ a. let none : a.next ≡ a.next + 0 = omega arith in record { port = refl; pieces = []; each = tt; next = none; holds = none_put a.next [] a.held refl }) outputs;
   fed = handed_past inputs accepted least;
+  confirms = confirms_past outputs least;
+  accounted = tt;
   ends = tt;
 }
 
@@ -90,7 +100,7 @@ got_set start journal least stands old read new up x y z I G =
 
 -- a device was read, which left its bytes as they are, and was then written, with outputs set out at the positions of their ports
 pub into : (start : Network NodeState) (inputs : List GivenInput) (result : Result Ended StreamFault) (o : Opened) (was set now : List OutputValue) (old read new : State) → LeavesNothingNew old read
-    → read.now.bytes ≡ old.now.bytes → verdict old.now.bytes ≡ Ok o → EachWith (IsSetOut (stands_opened o)) was set → ServedInto start (next_of o) inputs (accepted_opened o) result set now read new
+    → read.now.bytes ≡ old.now.bytes → verdict old.now.bytes ≡ Ok o → EachWith (IsSetOut (stands_opened o)) was set → ServedInto start o.cut (next_of o) inputs (accepted_opened o) result set now read new
     → StreamedInto start inputs result was now old new
 into start inputs result o was set now old read new L same reads sets S =
     let R = S.streamed in record {
@@ -110,6 +120,8 @@ into start inputs result o was set now old read new L same reads sets S =
             (λ a b. Got start R.journal (next_of o) (from_of (stands_opened o a.port) (given_of a)) old new a b) (got_set start R.journal (next_of o) (stands_opened o) old read new L.later) was set now sets S.outputs;
       });
       fed = λ other is. subst (λ x. AreHandedFrom inputs (accepted_opened x) (drop (next_of x) R.journal)) (same_opened _ _ _ reads is) S.fed;
+      confirms = λ other is. subst (λ x. AreConfirmsPut now (drop (next_of x) R.journal)) (same_opened _ _ _ reads is) S.confirms;
+      accounted = λ other is. subst (λ x. IfOk result (λ ended. Accounted x.cut R.journal (next_of x) ended.next)) (same_opened _ _ _ reads is) S.accounted;
       ends = S.ends;
     }
 

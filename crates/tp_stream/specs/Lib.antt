@@ -1,9 +1,12 @@
 pub mod Lower
+pub mod Accounted
+pub mod Confirmed
 pub mod Endings
 pub mod FailedEnds
 pub mod Failures
 pub mod Fitting
 pub mod Looks
+pub mod Noted
 pub mod Offered
 pub mod HandedFrom
 pub mod Outcomes

@@ -19,7 +19,7 @@ pub use Rattle.tp_model.specs.Topology.{Topology, node_count}
 pub use Rattle.tp_model.specs.Walks.{RecoversTo}
 pub use Rattle.tp_model.specs.WriteOrder.{Resting}
 pub use Rattle.tp_model.specs.declared.entry.Entry.{Entry}
-pub use Rattle.tp_model.specs.declared.entry.Entry.TheVariants.{HostIn}
+pub use Rattle.tp_model.specs.declared.entry.Entry.TheVariants.{Confirm, HostIn, Run, Take}
 pub use Rattle.tp_model.specs.declared.limits.TheConstants.{MAX_HELD, MAX_PORTS, MAX_STEPS, NUMBER_LIMIT}
 pub use Rattle.tp_model.specs.declared.opening.OpenFault.{OpenFault}
 pub use Rattle.tp_law_machine.specs.NodeOfBytes.{IsNodeOfBytes}
@@ -48,6 +48,7 @@ pub use Rattle.tp_recover.specs.declared.unopened.Unopened.{Unopened}
 pub use Rattle.tp_ready.specs.Seen.{unrisen}
 pub use Rattle.tp_shared.specs.BytesIn.{bytes_in}
 pub use Rattle.tp_shared.specs.Gains.{HoldNoted}
+pub use Rattle.tp_shared.specs.HandedIn.{handed}
 pub use Rattle.tp_shared.specs.Holds.{InHand}
 pub use Rattle.tp_shared.specs.Named.{Names}
 pub use Rattle.tp_shared.specs.Resting.{HasHalted}
@@ -56,10 +57,12 @@ pub use Rattle.tp_shared.specs.TurnsMade.{HostTurnMade, TurnMade}
 pub use Rattle.tp_shared.specs.declared.node_turn.NodeTurn.{NodeTurn}
 pub use Rattle.tp_work.specs.Offers.{offer_fault}
 pub use Rattle.tp_work.specs.Receipts.{IsFor}
+pub use Rattle.tp_work.specs.Turns.{BrokenOff, Turned}
 pub use Rattle.tp_work.specs.declared.host_fault.ConfirmFault.{ConfirmFault}
 pub use Rattle.tp_work.specs.declared.host_fault.ConfirmFault.TheVariants.{JournalFull, Memory, NotShown, StoreBroken}
 pub use Rattle.tp_work.specs.declared.host_fault.OfferFault.{OfferFault}
 pub use Rattle.tp_work.specs.declared.turn.Turn.{Turn}
+pub use Rattle.tp_flush.specs.All.{AreAll}
 pub use Rattle.tp_flush.specs.Due.{is_due}
 pub use Rattle.tp_flush.specs.Flushing.{Flushing, IsSameProcess, Walked, position}
 pub use Rattle.tp_flush.specs.Follows.{Follows}

@@ -2,6 +2,8 @@
 use Rattle.std.specs.Prelude.{◌≡◌, ◌⊎◌, ◌≤◌, ℕ, ◌+◌, ◌-◌, ◌==◌, Bool, true, ◌&&◌, nat_le, List, [], ◌∷◌, ◌++◌, length, map, get_or, take, drop, Result, Ok, Some, IfOk}
 use Rattle.tp_stream.specs.Lower.{HasHalted, list_all, Entry, NodeState, t414, Network, Port, after, LeavesOnly, State, moment, device_areas, Opened, next_of, verdict, RecoversTo, fresh_value, HasPut, OutputValue, given_of, Ended, Ending, Quiet, Turns, Gone, Halted, Stopped, GivenInput}
 use Rattle.tp_stream.specs.declared.fault.StreamFault.{StreamFault}
+use Rattle.tp_stream.specs.Accounted.{Accounted}
+use Rattle.tp_stream.specs.Confirmed.{AreConfirmsPut}
 use Rattle.tp_stream.specs.HandedFrom.{AreHandedFrom}
 use Rattle.tp_stream.specs.Standing.{accepted_opened, from_of, stands_opened}
 use Rattle.tp_stream.specs.Streamed.{Streamed}
@@ -99,17 +101,23 @@ pub record EndsPut (start : Network NodeState) (journal : List Entry) (why : End
   pub halted : HasHaltedAs why state
 
 -- What a stream leaves, and what its sinks got by that journal. If the answer says so, they got all outputs. Or no sink has changed. All that the journal
--- hands to ports since the opening comes from the stream's inputs.
+-- hands to ports since the opening comes from the stream's inputs, and all outputs that it confirms since then were put. If the stream finished, the host
+-- or a turn made each entry since the opening.
 pub record StreamedInto (start : Network NodeState) (inputs : List GivenInput) (result : Result Ended StreamFault) (was now : List OutputValue) (old new : State) : Type 0 where
   pub streamed : Streamed start result old new
   pub outputs : (map given_of now ≡ map given_of was) ⊎ AreShown start streamed.journal was now old new
   pub fed : (opened : Opened) → verdict old.now.bytes ≡ Ok opened → AreHandedFrom inputs (accepted_opened opened) (drop (next_of opened) streamed.journal)
+  pub confirms : (opened : Opened) → verdict old.now.bytes ≡ Ok opened → AreConfirmsPut now (drop (next_of opened) streamed.journal)
+  pub accounted : (opened : Opened) → verdict old.now.bytes ≡ Ok opened → IfOk result (λ ended. Accounted opened.cut streamed.journal (next_of opened) ended.next)
   pub ends : IfOk result (λ ended. EndsPut start streamed.journal ended.why now)
 
 -- What a stream leaves whose outputs were set out, and what its sinks got by that journal. If the answer says so, they got all outputs. All that the
 -- journal hands to ports, after its first `least` entries, comes from these inputs; before them each port had accepted as many bytes as `accepted` says.
-pub record ServedInto (start : Network NodeState) (least : ℕ) (inputs : List GivenInput) (accepted : ℕ → ℕ) (result : Result Ended StreamFault) (was now : List OutputValue) (old new : State) : Type 0 where
+-- All outputs that these entries confirm were put. If the stream finished, the host or a turn made each of them.
+pub record ServedInto (start network : Network NodeState) (least : ℕ) (inputs : List GivenInput) (accepted : ℕ → ℕ) (result : Result Ended StreamFault) (was now : List OutputValue) (old new : State) : Type 0 where
   pub streamed : Streamed start result old new
   pub outputs : EachWith (λ a b. Got start streamed.journal least a.next old new a b) was now
   pub fed : AreHandedFrom inputs accepted (drop least streamed.journal)
+  pub confirms : AreConfirmsPut now (drop least streamed.journal)
+  pub accounted : IfOk result (λ ended. Accounted network streamed.journal least ended.next)
   pub ends : IfOk result (λ ended. EndsPut start streamed.journal ended.why now)

@@ -2,6 +2,7 @@
 
 ghost use Rattle.std.specs.Prelude.{◌≡◌, ◌≤◌, ◌*◌, ◌-◌, ◌^◌, min, All, Some, None, IfOk, IfErr, IfSome};
 ghost use Rattle.tp_stream.specs.Lower.{AreTrue, WereTrue, Resting, Began, IsSameProcess, Walked};
+ghost use Rattle.tp_stream.specs.Accounted.{MadeByTurns};
 ghost use Rattle.tp_stream.specs.FailedEnds.{NamesNoEnd};
 ghost use Rattle.tp_stream.specs.Failures.{FailedWhere, answer_failed};
 ghost use Rattle.tp_stream.specs.Outcomes.{shift_outcome};
@@ -34,7 +35,9 @@ const SHIFT: u64 = 1024;
 /// Makes a turn that was drawn in this shift.
 fn one<J: Naming, R: Wait>(rt: &R, net: &Net<J, NoGate>, shift: &Shift, seat: &mut Seat<J>)
     requires queue { seat.old.hand.of ≡ Some net.now.queue }
+    requires made { MadeByTurns J.start seat.old.slips }
     ensures queue { seat.new.hand.of ≡ Some net.now.queue }
+    ensures made { MadeByTurns J.start seat.new.slips }
 {
     let before = seat.count();
     let done = net.turn(rt, seat);
@@ -44,7 +47,9 @@ fn one<J: Naming, R: Wait>(rt: &R, net: &Net<J, NoGate>, shift: &Shift, seat: &m
 /// Makes turns until none is left in this shift.
 fn work<J: Naming, R: Wait>(rt: &R, net: &Net<J, NoGate>, shift: &Shift, seat: &mut Seat<J>)
     requires queue { seat.old.hand.of ≡ Some net.now.queue }
+    requires made { MadeByTurns J.start seat.old.slips }
     ensures queue { seat.new.hand.of ≡ Some net.now.queue }
+    ensures made { MadeByTurns J.start seat.new.slips }
 {
     for _ in 0..u32::MAX {
         if !shift.draw() {
@@ -57,7 +62,9 @@ fn work<J: Naming, R: Wait>(rt: &R, net: &Net<J, NoGate>, shift: &Shift, seat: &
 /// Makes turns in each shift, until no more shifts will be opened.
 fn stay<J: Naming, R: Wait>(rt: &R, net: &Net<J, NoGate>, shift: &Shift, seat: &mut Seat<J>)
     requires queue { seat.old.hand.of ≡ Some net.now.queue }
+    requires made { MadeByTurns J.start seat.old.slips }
     ensures queue { seat.new.hand.of ≡ Some net.now.queue }
+    ensures made { MadeByTurns J.start seat.new.slips }
 {
     shift.crew.come();
     let mut seen = 0;
@@ -80,8 +87,8 @@ fn work_all<J: Naming + Send + Sync, R: Threads + Wait + Sync>(
     shift: &Shift,
     seats: &mut [Seat<J>],
 )
-    requires seats { All (λ seat. seat.hand.of ≡ Some net.now.queue) seats.old }
-    ensures seats { All (λ seat. seat.hand.of ≡ Some net.now.queue) seats.new }
+    requires seats { All (λ seat. (seat.hand.of ≡ Some net.now.queue) × MadeByTurns J.start seat.slips) seats.old }
+    ensures seats { All (λ seat. MadeByTurns J.start seat.slips) seats.new }
 {
     let threads = seats.len().max(1);
     thread::for_each_mut(
@@ -89,39 +96,41 @@ fn work_all<J: Naming + Send + Sync, R: Threads + Wait + Sync>(
         seats,
         threads,
         &|_, seat: &mut Seat<J>|
-            requires { seat.now.hand.of ≡ Some net.now.queue }
-            ensures { seat.exit.now.hand.of ≡ Some net.entry.now.queue }
+            requires { (seat.now.hand.of ≡ Some net.now.queue) × MadeByTurns J.start seat.now.slips }
+            ensures { MadeByTurns J.start seat.exit.now.slips }
         { stay(rt, net, shift, seat) },
     );
 }
 
 /// Does `work` in this thread while a worker at each seat stays in a thread of its own. Workers without a thread come after the work. In the end the
-/// work must say that no more shifts are opened.
+/// work must say that no more shifts are opened. Answers the seats, with the slips of what the workers' turns made.
 #[inline(never)]
 pub(crate) fn go_with_workers<
     J: Naming + Send + Sync,
     W: Lent<Back = B> + Drop,
     R: Threads + Wait + Sync,
     B,
->(rt: &R, net: &Net<J, NoGate>, shift: &Shift, seats: Vec<Seat<J>>, work: W) -> B
-    requires seats { All (λ seat. seat.hand.of ≡ Some net.now.queue) seats.items }
+>(rt: &R, net: &Net<J, NoGate>, shift: &Shift, seats: Vec<Seat<J>>, work: W) -> (Vec<Seat<J>>, B)
+    requires seats { All (λ seat. (seat.hand.of ≡ Some net.now.queue) × MadeByTurns J.start seat.slips) seats.items }
     requires begins { W.may_begin work }
-    ensures { W.gives work result }
+    ensures seats { All (λ seat. MadeByTurns J.start seat.slips) result.0.items }
+    ensures gives { W.gives work result.1 }
 {
-    let ((), back) = join(
+    join(
         rt,
-        move ||
-            requires { All (λ seat. seat.hand.of ≡ Some net.now.queue) seats.items }
+        move || -> Vec<Seat<J>>
+            requires { All (λ seat. (seat.hand.of ≡ Some net.now.queue) × MadeByTurns J.start seat.slips) seats.items }
+            ensures { All (λ seat. MadeByTurns J.start seat.slips) result.items }
         {
             let mut seats = seats;
             work_all(rt, net, shift, seats.as_mut_slice());
+            seats
         },
         move || -> B
             requires { W.may_begin work }
             ensures { W.gives work result }
         { work.go() },
-    );
-    back
+    )
 }
 
 /// Makes turns until none is left in this shift or the flusher's turn is due: enough entries beyond `seen` were made to fill a group.
@@ -133,7 +142,9 @@ fn help<J: Naming, R: Wait>(
     seat: &mut Seat<J>,
 )
     requires queue { seat.old.hand.of ≡ Some net.now.queue }
+    requires made { MadeByTurns J.start seat.old.slips }
     ensures queue { seat.new.hand.of ≡ Some net.now.queue }
+    ensures made { MadeByTurns J.start seat.new.slips }
 {
     for _ in 0..u32::MAX {
         if shift.is_due(seen) || !shift.draw() {
@@ -152,7 +163,9 @@ fn help_seated<J: Naming, R: Wait>(
     seat: &mut Option<Seat<J>>,
 )
     requires queue { IfSome seat.old (λ seat. seat.hand.of ≡ Some net.now.queue) }
+    requires made { IfSome seat.old (λ seat. MadeByTurns J.start seat.slips) }
     ensures queue { IfSome seat.new (λ seat. seat.hand.of ≡ Some net.now.queue) }
+    ensures made { IfSome seat.new (λ seat. MadeByTurns J.start seat.slips) }
 {
     if let Some(seat) = seat {
         help(rt, net, shift, seen, seat);
@@ -171,7 +184,9 @@ fn flush_beside<J: Naming, D: Disk, R: Wait>(
     flusher: &mut Flusher<J, D>,
 ) -> Result<(), StreamFault>
     requires queue { IfSome seat.old (λ seat. seat.hand.of ≡ Some net.now.queue) }
+    requires made { IfSome seat.old (λ seat. MadeByTurns J.start seat.slips) }
     ensures queue { IfSome seat.new (λ seat. seat.hand.of ≡ Some net.now.queue) }
+    ensures made { IfSome seat.new (λ seat. MadeByTurns J.start seat.slips) }
     ensures premise { WereTrue flusher.old.reads flusher.new.reads }
     ensures walks { AreTrue flusher.new.reads → Began J.formatted J.before flusher.old.opened → Walked flusher.old flusher.new }
     ensures process { IsSameProcess flusher.old flusher.new }
@@ -257,7 +272,9 @@ pub(crate) fn go_beside<J: Naming, D: Disk, R: Wait>(
     flusher: &mut Flusher<J, D>,
 ) -> Result<Option<Ending>, StreamFault>
     requires queue { IfSome seat.old (λ seat. seat.hand.of ≡ Some ground.net.now.queue) }
+    requires made { IfSome seat.old (λ seat. MadeByTurns J.start seat.slips) }
     ensures queue { IfSome seat.new (λ seat. seat.hand.of ≡ Some ground.entry.net.now.queue) }
+    ensures made { IfSome seat.new (λ seat. MadeByTurns J.start seat.slips) }
     ensures premise { WereTrue flusher.old.reads flusher.new.reads }
     ensures walks { AreTrue flusher.new.reads → Began J.formatted J.before flusher.old.opened → Walked flusher.old flusher.new }
     ensures process { IsSameProcess flusher.old flusher.new }

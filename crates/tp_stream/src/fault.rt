@@ -31,9 +31,9 @@ pub enum StreamFault {
     OutputFailed(u8),
     /// A call of the device failed in a flush. No call was made after it.
     FlushFailed,
-    /// The book or the area takes no entries, though no call of the device failed in a flush. Or, after the last flush, an entry isn't stored, or an
-    /// output is left that the stream had to put. None of that occurs: a failed flush is told first, and the last flush comes after all turns and
-    /// steps. No clause says this.
+    /// The book or the area takes no entries, though no call of the device failed in a flush. Or, after the last flush, an entry isn't stored, an output
+    /// is left that the stream had to put, or an entry has no slip in a seat of the stream. None of that occurs: a failed flush is told first, and the
+    /// last flush comes after all turns and steps. No clause says this.
     NotStored,
     /// The journal has no room, and no checkpoint makes any.
     JournalFull,

@@ -1,6 +1,7 @@
 //! Streams: a device's network runs, and its ports write to sinks and read from sources meanwhile.
 #![tactic(auto)]
 
+mod accounting;
 mod beginning;
 mod beside;
 mod crew;

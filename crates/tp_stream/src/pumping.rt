@@ -1,9 +1,10 @@
 //! Steps of all outputs and inputs of a network.
 
-ghost use Rattle.std.specs.Prelude.{◌≡◌, ◌<◌, ◌==◌, ◌-◌, ℕ, List, length, map, true, false, Ok, IfOk, IfSome, IfErr, OnErr, if◌then◌else◌};
+ghost use Rattle.std.specs.Prelude.{◌≡◌, ◌<◌, ◌==◌, ◌-◌, ℕ, List, length, map, set, slice_get, true, false, Ok, Some, IfOk, IfSome, IfErr, OnErr, if◌then◌else◌};
 ghost use Rattle.tp_stream.specs.Lower.{AreTrue, JournalRoom, accepted_of, port_in, room_of, is_journal_full, Began, OutputValue, given_input};
 ghost use Rattle.tp_stream.specs.FailedEnds.{NamesEnd, NamesInput, NamesOutput};
 ghost use Rattle.tp_stream.specs.HandedFrom.{FedFrom, FeedsFrom, HandsNoBytes};
+ghost use Rattle.tp_stream.specs.Noted.{StepsNoted};
 ghost use Rattle.tp_stream.specs.Offered.{Offered};
 ghost use Rattle.tp_stream.specs.Outcomes.{AreTakersThere, StepCameTo, pumped_then};
 ghost use Rattle.tp_stream.specs.Put.{EachWith};
@@ -92,6 +93,7 @@ fn step_output<J: Naming, D: Disk, S: Taker<D>>(
     ensures begun { IfErr result CameBetween }
     ensures names { IfErr result (NamesOutput output.new.port) }
     ensures unfed { HandsNoBytes host.old host.new }
+    ensures noted { (outputs : List OutputValue) (place : ℕ) → slice_get outputs place ≡ Some output.old → StepsNoted outputs seat.old host.old → StepsNoted (set outputs place output.new) seat.new host.new }
     ensures book { IsConfirmed held.old.book held.new.book }
     ensures room { is_journal_full held.old.book 1 ≡ false → IfErr result OtherThanFull }
     ensures came { IfOk result (StepCameTo flusher.now.world.mark held.old.book held.new.book output.old output.new) }
@@ -120,6 +122,7 @@ fn step_all<J: Naming, D: Disk, S: Taker<D>>(
     requires { AreTrue flusher.now.reads → Began J.formatted J.before flusher.now.opened → PortsStand J.formatted flusher.now.world held.old.book }
     ensures puts { EachWith (PutsLeft held.old.book flusher.now.world.mark) outputs.old outputs.new }
     ensures unfed { HandsNoBytes host.old host.new }
+    ensures noted { StepsNoted outputs.old seat.old host.old → StepsNoted outputs.new seat.new host.new }
     ensures begun { IfErr result CameBetween }
     ensures ends { (inputs : List ℕ) → IfErr result (NamesEnd outputs.new inputs) }
     ensures room { (journal : JournalRoom) → UnreservedBook journal held.old.book → has_room_for journal held.old.book (length outputs.old) ≡ true → IfErr result OtherThanFull }
@@ -146,6 +149,7 @@ fn step_settled<J: Naming, D: Disk, S: Taker<D>>(
     ensures put { AreTrue flusher.new.reads → Began J.formatted J.before flusher.old.opened
         → AllStepped J.formatted flusher.old flusher.old outputs.old outputs.new }
     ensures unfed { HandsNoBytes host.old host.new }
+    ensures noted { StepsNoted outputs.old seat.old host.old → StepsNoted outputs.new seat.new host.new }
     ensures begun { IfErr result CameBetween }
     ensures ends { (inputs : List ℕ) → IfErr result (NamesEnd outputs.new inputs) }
     ensures room { (journal : JournalRoom) → UnreservedBook journal held.old.book → has_room_for journal held.old.book (length outputs.old) ≡ true → IfErr result OtherThanFull }
@@ -172,6 +176,7 @@ fn step_outputs<J: Naming, D: Disk, S: Taker<D>, R: Wait>(
     ensures put { AreTrue flusher.new.reads → Began J.formatted J.before flusher.old.opened
         → AllStepped J.formatted flusher.old flusher.old outputs.old outputs.new }
     ensures unfed { HandsNoBytes host.old host.new }
+    ensures noted { StepsNoted outputs.old seat.old host.old → StepsNoted outputs.new seat.new host.new }
     ensures begun { IfErr result CameBetween }
     ensures ends { (inputs : List ℕ) → IfErr result (NamesEnd outputs.new inputs) }
 {
@@ -223,6 +228,7 @@ fn step_input<J: Naming, I: Source, R: Wait>(
     ensures names { IfErr result (NamesInput input.new.port) }
     ensures same { (input.new.port ≡ input.old.port) × (I.input input.new.source ≡ I.input input.old.source) }
     ensures fed { FeedsFrom (given_input input.old.port (I.input input.old.source)) J.accepted host.old host.new }
+    ensures noted { (outputs : List OutputValue) → StepsNoted outputs seat.old host.old → StepsNoted outputs seat.new host.new }
 {
     let mut held = shared.book().lock(rt);
     held.compare_host(host);
@@ -322,6 +328,7 @@ pub(crate) fn step_inputs<J: Naming, I: Source, R: Wait>(
     ensures ends { (outputs : List OutputValue) → IfErr result (NamesEnd outputs (map (λ i. i.port) inputs.new)) }
     ensures there { IfOk result AreTakersThere }
     ensures fed { FedFrom J.accepted (map (λ i. given_input i.port (I.input i.source)) inputs.old) (map (λ i. given_input i.port (I.input i.source)) inputs.new) host.old host.new }
+    ensures noted { (outputs : List OutputValue) → StepsNoted outputs seat.old host.old → StepsNoted outputs seat.new host.new }
 {
     let mut has_moved = false;
     for input in inputs.iter_mut() {
@@ -348,6 +355,7 @@ fn pump_inputs<J: Naming, I: Source, R: Wait>(
     ensures ends { (outputs : List OutputValue) → IfErr result (NamesEnd outputs (map (λ i. i.port) inputs.new)) }
     ensures there { AreTakersThere put → IfOk result AreTakersThere }
     ensures fed { FedFrom J.accepted (map (λ i. given_input i.port (I.input i.source)) inputs.old) (map (λ i. given_input i.port (I.input i.source)) inputs.new) host.old host.new }
+    ensures noted { (outputs : List OutputValue) → StepsNoted outputs seat.old host.old → StepsNoted outputs seat.new host.new }
 {
     let pumped = put.then(step_inputs(rt, shared, pace, seat, host, false, inputs)?);
     if pumped != Pumped::Nothing || !may_wait {
@@ -376,6 +384,7 @@ pub(crate) fn pump<J: Naming, D: Disk, S: Taker<D>, I: Source, R: Wait>(
     ensures ends { IfErr result (NamesEnd streams.new.outputs.items (map (λ i. i.port) streams.new.inputs.items)) }
     ensures gone { result ≡ Ok Gone → streams.new.inputs ≡ streams.old.inputs }
     ensures fed { FedFrom J.accepted (map (λ i. given_input i.port (I.input i.source)) streams.old.inputs.items) (map (λ i. given_input i.port (I.input i.source)) streams.new.inputs.items) host.old host.new }
+    ensures noted { StepsNoted streams.old.outputs.items seat.old host.old → StepsNoted streams.new.outputs.items seat.new host.new }
 {
     let put = step_outputs(rt, shared, seat, host, flusher, &mut streams.outputs)?;
     if put == Pumped::Gone {

@@ -2,6 +2,7 @@
 
 ghost use Rattle.std.specs.Prelude.{◌≡◌, ◌↔◌, ◌<◌, ◌≤◌, length, min, true, false, Ok, IfOk, IfErr, OnOk, OnErr, ◌⊎◌, ◌+◌, ◌-◌, ◌*◌, ◌^◌};
 ghost use Rattle.tp_stream.specs.Lower.{MAX_STEPS, after_begin, is_due};
+ghost use Rattle.tp_stream.specs.Accounted.{MadeByTurns};
 ghost use Rattle.tp_stream.specs.Outcomes.{turn_fault_of};
 ghost use Rattle.tp_stream.specs.Quiet.{HadNothing, HasNoStep, HaveRested, HostRests, IsStill, NodeRests};
 ghost use Rattle.tp_stream.specs.Rooms.{HavePlace, StaysAhead, has_room_for};
@@ -64,7 +65,8 @@ fn node_turn<J: Naming, R: Wait>(
 ) -> Result<Did, Refusal>
     requires there { number < length J.start.nodes }
     requires quantum { quantum ≤ MAX_STEPS }
-    ensures { IfOk result (λ did. did.nothing ≡ true → NodeRests J.start number) }
+    ensures rests { IfOk result (λ did. did.nothing ≡ true → NodeRests J.start number) }
+    ensures made { MadeByTurns J.start seat.old → MadeByTurns J.start seat.new }
 {
     match shared.turn(rt, &NoGate, seat, &mut Sights::new(), runs, number, quantum) {
         Ok(turn) => Ok(did_of(&turn)),
@@ -78,7 +80,8 @@ fn host_turn<J: Naming, R: Wait>(
     shared: &Shared<J>,
     seat: &mut Seat<J>,
 ) -> Result<Did, Refusal>
-    ensures { IfOk result (λ did. did.nothing ≡ true → HostRests J.start) }
+    ensures rests { IfOk result (λ did. did.nothing ≡ true → HostRests J.start) }
+    ensures made { MadeByTurns J.start seat.old → MadeByTurns J.start seat.new }
 {
     match shared.host_turn(rt, &NoGate, seat, &mut Sights::new()) {
         Ok(takes) => Ok(Did {
@@ -101,7 +104,8 @@ pub(crate) fn make_turn<J: Naming, R: Wait>(
     quantum: u16,
 ) -> Result<Did, Refusal>
     requires { quantum ≤ MAX_STEPS }
-    ensures { IfOk result (λ did. did.nothing ≡ true → HadNothing J.start whose) }
+    ensures had { IfOk result (λ did. did.nothing ≡ true → HadNothing J.start whose) }
+    ensures made { MadeByTurns J.start seat.old → MadeByTurns J.start seat.new }
 {
     if whose >= shared.nodes() {
         host_turn(rt, shared, seat)
@@ -233,6 +237,7 @@ fn one_turn<J: Naming, R: Wait>(
     ensures busy { turns.new.is_busy ≡ turns.old.is_busy }
     ensures err { OnErr result (turns.new ≡ turns.old) }
     ensures begun { IfErr result CameOfTurns }
+    ensures turns { MadeByTurns J.start seat.old → MadeByTurns J.start seat.new }
 {
     let nodes = shared.nodes();
     match make_turn(rt, shared, seat, runs, turns.whose, pace.task.quantum) {
@@ -283,6 +288,7 @@ pub(crate) fn round<J: Naming, R: Wait>(
     ensures rested { OnOk result (HaveRested J.start turns.new.whose turns.new.idle) }
     ensures made { MadeRound (length J.start.nodes) turns.old turns.new }
     ensures begun { IfErr result CameOfTurns }
+    ensures turns { MadeByTurns J.start seat.old → MadeByTurns J.start seat.new }
 {
     let nodes = shared.nodes();
     let most = turns_of(turns, nodes);

@@ -2,10 +2,13 @@
 
 ghost use Rattle.std.specs.Prelude.{map, ◌≡◌, ℕ, ◌≤◌, List, length, vec_len, All, Some, IfOk, IfSome, IfErr, OnOk};
 ghost use Rattle.tp_stream.specs.Lower.{AreTrue, list_all, OutputValue, Began, is_over, given_input};
+ghost use Rattle.tp_stream.specs.Accounted.{Accounted, MadeByTurns};
+ghost use Rattle.tp_stream.specs.Confirmed.{AreConfirmsPut};
 ghost use Rattle.tp_stream.specs.FailedEnds.{NamesEnd};
 ghost use Rattle.tp_stream.specs.Failures.{answer_failed};
 ghost use Rattle.tp_stream.specs.HandedFrom.{FedFrom};
 ghost use Rattle.tp_stream.specs.Looks.{HaveLooked, LooksAtMostOnce, LooksOnce};
+ghost use Rattle.tp_stream.specs.Noted.{AllNoted, StepsNoted};
 ghost use Rattle.tp_stream.specs.Over.{LeavesNoInput};
 ghost use Rattle.tp_stream.specs.Put.{EndsPut};
 ghost use Rattle.tp_stream.specs.Quiet.{HaveRested, IsWhyEnded};
@@ -16,6 +19,7 @@ ghost use Rattle.tp_stream.specs.Streamed.{CameBegun, CameBetween, CameOfTurns};
 ghost use Rattle.tp_stream.specs.Teams.{team_of};
 ghost use Rattle.tp_stream.specs.Told.{TellsProgress, ToldLater};
 
+use crate::accounting::{slips_of, with_leader};
 use crate::beside::go_beside;
 use crate::endings::{are_over, ending, is_asked, may_wait};
 use crate::fault::StreamFault;
@@ -60,13 +64,40 @@ impl<J: Naming> Going<J> {
         runs: Runs,
     ) -> Going<J>
         ensures rested { HaveRested J.start result.turns.whose result.turns.idle }
-        ensures host { result.host ≡ host }
+        ensures seats { (result.seat ≡ seat) × (result.steps ≡ steps) × (result.host ≡ host) }
     {
         let Ground { rt, net, pace, .. } = ground;
         let has_halted = pace.task.stop_on_halt && find_halted(rt, net.shared());
         Going {
             turns: Turns::new(has_halted),
             seat,
+            steps,
+            host,
+            runs,
+        }
+    }
+
+    /// Puts the slips of a leader's seat and of the workers' seats after those of its own turns.
+    pub(crate) fn absorb(
+        self,
+        leader: Option<tp_work::Seat<J>>,
+        workers: Vec<tp_work::Seat<J>>,
+    ) -> Going<J>
+        requires leader { IfSome leader (λ seat. MadeByTurns J.start seat.slips) }
+        requires workers { All (λ seat. MadeByTurns J.start seat.slips) workers.items }
+        ensures host { result.host ≡ self.host }
+        ensures noted { (outputs : List OutputValue) → AllNoted J.start outputs self.seat self.steps self.host → AllNoted J.start outputs result.seat result.steps result.host }
+    {
+        let Going {
+            turns,
+            seat,
+            steps,
+            host,
+            runs,
+        } = self;
+        Going {
+            turns,
+            seat: slips_of(with_leader(seat, leader), workers),
             steps,
             host,
             runs,
@@ -90,6 +121,7 @@ fn take_awaited<J: Naming, I: Source, R: Wait>(
     ensures begun { IfErr result CameBetween }
     ensures ends { (outputs : List OutputValue) → IfErr result (NamesEnd outputs (map (λ i. i.port) inputs.new)) }
     ensures fed { FedFrom J.accepted (map (λ i. given_input i.port (I.input i.source)) inputs.old) (map (λ i. given_input i.port (I.input i.source)) inputs.new) going.old.host going.new.host }
+    ensures noted { (outputs : List OutputValue) → StepsNoted outputs going.old.steps going.old.host → StepsNoted outputs going.new.steps going.new.host }
 {
     let Ground { rt, net, pace, .. } = ground;
     match step_inputs(
@@ -118,6 +150,7 @@ fn take_or<J: Naming, I: Source, R: Wait>(
     ensures begun { IfErr result CameBetween }
     ensures ends { (outputs : List OutputValue) → IfErr result (NamesEnd outputs (map (λ i. i.port) inputs.new)) }
     ensures fed { FedFrom J.accepted (map (λ i. given_input i.port (I.input i.source)) inputs.old) (map (λ i. given_input i.port (I.input i.source)) inputs.new) going.old.host going.new.host }
+    ensures noted { (outputs : List OutputValue) → StepsNoted outputs going.old.steps going.old.host → StepsNoted outputs going.new.steps going.new.host }
 {
     match take_awaited(ground, going, inputs) {
         Ok(None) if are_over(inputs) => Ok(None),
@@ -140,6 +173,7 @@ fn rest_where_late<J: Naming, I: Source, R: Wait>(
     ensures begun { IfErr result CameBetween }
     ensures ends { (outputs : List OutputValue) → IfErr result (NamesEnd outputs (map (λ i. i.port) inputs.new)) }
     ensures fed { FedFrom J.accepted (map (λ i. given_input i.port (I.input i.source)) inputs.old) (map (λ i. given_input i.port (I.input i.source)) inputs.new) going.old.host going.new.host }
+    ensures noted { (outputs : List OutputValue) → StepsNoted outputs going.old.steps going.old.host → StepsNoted outputs going.new.steps going.new.host }
 {
     let Ground { rt, net, pace, .. } = ground;
     let shared = net.shared();
@@ -165,7 +199,8 @@ fn make_turns<J: Naming, R: Wait>(
     ensures rested { OnOk result (HaveRested J.start going.new.turns.whose going.new.turns.idle) }
     ensures made { MadeRound (length J.start.nodes) going.old.turns going.new.turns }
     ensures begun { IfErr result CameOfTurns }
-    ensures host { going.new.host ≡ going.old.host }
+    ensures host { (going.new.steps ≡ going.old.steps) × (going.new.host ≡ going.old.host) }
+    ensures turns { MadeByTurns J.start going.old.seat → MadeByTurns J.start going.new.seat }
 {
     let Ground {
         rt,
@@ -205,6 +240,7 @@ fn rest_or_turn<J: Naming, I: Source, R: Wait>(
     ensures begun { IfErr result CameBetween }
     ensures ends { (outputs : List OutputValue) → IfErr result (NamesEnd outputs (map (λ i. i.port) inputs.new)) }
     ensures fed { FedFrom J.accepted (map (λ i. given_input i.port (I.input i.source)) inputs.old) (map (λ i. given_input i.port (I.input i.source)) inputs.new) going.old.host going.new.host }
+    ensures noted { (outputs : List OutputValue) → AllNoted J.start outputs going.old.seat going.old.steps going.old.host → AllNoted J.start outputs going.new.seat going.new.steps going.new.host }
 {
     match rest_where_late(ground, going, inputs, pumped, over) {
         Ok(Some(pumped)) => make_turns(ground, going, pumped, over),
@@ -237,6 +273,7 @@ fn go_on<J: Naming, D: Disk, S: Taker<D>, I: Source, P: Stop, R: Wait>(
     ensures begun { IfErr result CameBetween }
     ensures ends { IfErr result (NamesEnd streams.new.outputs.items (map (λ i. i.port) streams.new.inputs.items)) }
     ensures fed { FedFrom J.accepted (map (λ i. given_input i.port (I.input i.source)) streams.old.inputs.items) (map (λ i. given_input i.port (I.input i.source)) streams.new.inputs.items) going.old.host going.new.host }
+    ensures noted { AllNoted J.start streams.old.outputs.items going.old.seat going.old.steps going.old.host → AllNoted J.start streams.new.outputs.items going.new.seat going.new.steps going.new.host }
 {
     let Ground {
         rt,
@@ -297,6 +334,7 @@ fn cycle<J: Naming, D: Disk, S: Taker<D>, I: Source, L: Listener, P: Stop, R: Wa
     ensures made { MadeRound (length J.start.nodes) going.old.turns going.new.turns }
     ensures ends { IfErr result (NamesEnd streams.new.outputs.items (map (λ i. i.port) streams.new.inputs.items)) }
     ensures fed { FedFrom J.accepted (map (λ i. given_input i.port (I.input i.source)) streams.old.inputs.items) (map (λ i. given_input i.port (I.input i.source)) streams.new.inputs.items) going.old.host going.new.host }
+    ensures noted { AllNoted J.start streams.old.outputs.items going.old.seat going.old.steps going.old.host → AllNoted J.start streams.new.outputs.items going.new.seat going.new.steps going.new.host }
 {
     let Ground {
         rt,
@@ -325,7 +363,9 @@ fn lap<J: Naming, D: Disk, S: Taker<D>, I: Source, L: Listener, P: Stop, R: Wait
 ) -> Result<Option<Ending>, StreamFault>
     requires rested { HaveRested J.start going.old.turns.whose going.old.turns.idle }
     requires queue { IfSome seat.old (λ seat. seat.hand.of ≡ Some ground.net.now.queue) }
+    requires made { IfSome seat.old (λ seat. MadeByTurns J.start seat.slips) }
     ensures queue { IfSome seat.new (λ seat. seat.hand.of ≡ Some ground.entry.net.now.queue) }
+    ensures made { IfSome seat.new (λ seat. MadeByTurns J.start seat.slips) }
     ensures served { ServedOn J.formatted J.before (answer_failed result) flusher.old flusher.new streams.old.outputs.items streams.new.outputs.items }
     ensures answer { ServedAnswer J.start ground.entry.pace.task (list_all (λ i. is_over i.ended i.is_blocked) streams.new.inputs.items) result }
     ensures looks { IfOk result (LooksAtMostOnce ground.entry.pace.task (P.answers stop.old) (P.answers stop.new)) }
@@ -333,6 +373,7 @@ fn lap<J: Naming, D: Disk, S: Taker<D>, I: Source, L: Listener, P: Stop, R: Wait
     ensures rested { OnOk result (HaveRested J.start going.new.turns.whose going.new.turns.idle) }
     ensures ends { IfErr result (NamesEnd streams.new.outputs.items (map (λ i. i.port) streams.new.inputs.items)) }
     ensures fed { FedFrom J.accepted (map (λ i. given_input i.port (I.input i.source)) streams.old.inputs.items) (map (λ i. given_input i.port (I.input i.source)) streams.new.inputs.items) going.old.host going.new.host }
+    ensures noted { AllNoted J.start streams.old.outputs.items going.old.seat going.old.steps going.old.host → AllNoted J.start streams.new.outputs.items going.new.seat going.new.steps going.new.host }
 {
     let Ground { rt, pace, .. } = ground;
     let done = cycle(ground, going, flusher, streams, listener, stop);
@@ -363,13 +404,16 @@ pub(crate) fn laps<J: Naming, D: Disk, S: Taker<D>, I: Source, L: Listener, P: S
 ) -> Result<Option<Ending>, StreamFault>
     requires rested { HaveRested J.start going.old.turns.whose going.old.turns.idle }
     requires queue { IfSome seat.old (λ seat. seat.hand.of ≡ Some ground.net.now.queue) }
+    requires made { IfSome seat.old (λ seat. MadeByTurns J.start seat.slips) }
     ensures queue { IfSome seat.new (λ seat. seat.hand.of ≡ Some ground.entry.net.now.queue) }
+    ensures made { IfSome seat.new (λ seat. MadeByTurns J.start seat.slips) }
     ensures served { ServedOn J.formatted J.before (answer_failed result) flusher.old flusher.new streams.old.outputs.items streams.new.outputs.items }
     ensures answer { ServedAnswer J.start ground.entry.pace.task (list_all (λ i. is_over i.ended i.is_blocked) streams.new.inputs.items) result }
     ensures told { ToldLater (length J.start.nodes) (L.told listener.old) (L.told listener.new) }
     ensures looks { IfOk result (HaveLooked ground.entry.pace.task (P.answers stop.old) (P.answers stop.new)) }
     ensures ends { IfErr result (NamesEnd streams.new.outputs.items (map (λ i. i.port) streams.new.inputs.items)) }
     ensures fed { FedFrom J.accepted (map (λ i. given_input i.port (I.input i.source)) streams.old.inputs.items) (map (λ i. given_input i.port (I.input i.source)) streams.new.inputs.items) going.old.host going.new.host }
+    ensures noted { AllNoted J.start streams.old.outputs.items going.old.seat going.old.steps going.old.host → AllNoted J.start streams.new.outputs.items going.new.seat going.new.steps going.new.host }
 {
     flusher.known();
     let mut last = Ok(None);
@@ -403,7 +447,10 @@ pub(crate) fn serve<
     stop: &mut P,
 ) -> (Result<Ended, StreamFault>, HostKey<J>)
     requires rested { HaveRested J.start going.turns.whose going.turns.idle }
+    requires first { flusher.old.world.mark ≡ J.first }
+    requires noted { AllNoted J.start streams.old.outputs.items going.seat going.steps going.host }
     requires seats { All (λ seat. seat.hand.of ≡ Some ground.net.now.queue) seats.items }
+    requires made { All (λ seat. MadeByTurns J.start seat.slips) seats.items }
     requires team { (ground.pace.workers ≡ team_of ground.pace.task.workers (length J.start.nodes)) × (vec_len seats ≡ ground.pace.workers) }
     ensures served { ServedOn J.formatted J.before (answer_failed result.0) flusher.old flusher.new streams.old.outputs.items streams.new.outputs.items }
     ensures why { IfOk result.0 (λ ended. IsWhyEnded J.start ground.entry.pace.task ended.why) }
@@ -417,11 +464,21 @@ pub(crate) fn serve<
     ensures begun { IfErr result.0 CameBegun }
     ensures ends { IfErr result.0 (NamesEnd streams.new.outputs.items (map (λ i. i.port) streams.new.inputs.items)) }
     ensures fed { FedFrom J.accepted (map (λ i. given_input i.port (I.input i.source)) streams.old.inputs.items) (map (λ i. given_input i.port (I.input i.source)) streams.new.inputs.items) going.host result.1 }
+    ensures confirms { AreConfirmsPut streams.new.outputs.items result.1 }
+    ensures accounted { AreTrue flusher.new.reads → Began J.formatted J.before flusher.old.opened
+        → IfOk result.0 (λ ended. Accounted J.start flusher.new.world.journal J.first ended.next) }
 {
     let Ground { rt, alloc, net, .. } = ground;
     let shared = net.shared();
+    let first = flusher.mark();
     let (going, last) = lead(ground, seats, going, flusher, streams, listener, stop);
-    let Going { turns, host, .. } = going;
+    let Going {
+        turns,
+        seat,
+        steps,
+        mut host,
+        ..
+    } = going;
     let rests = turns.is_quiet(shared.nodes());
     let why = match last {
         Ok(Some(why)) => why,
@@ -429,7 +486,12 @@ pub(crate) fn serve<
         Ok(None) => return (Err(StreamFault::NotStored), host),
         Err(fault) => return (Err(fault), host),
     };
-    match finish(rt, alloc, shared, flusher, why, &streams.outputs) {
+    let mut all = steps;
+    all.absorb(seat);
+    let outputs = &streams.outputs;
+    match finish(
+        rt, alloc, shared, flusher, why, outputs, first, &mut all, &mut host,
+    ) {
         Ok(next) => {
             tell_stopped(rt, shared, why, rests, listener);
             (Ok(Ended { next, why }), host)

@@ -1,6 +1,7 @@
 //! Turns that bring a snapshot to its end when the journal has no room for others.
 
 ghost use Rattle.std.specs.Prelude.{◌≡◌, OnOk, IfErr};
+ghost use Rattle.tp_stream.specs.Accounted.{MadeByTurns};
 ghost use Rattle.tp_stream.specs.Streamed.{CameOfTurns};
 
 use crate::fault::StreamFault;
@@ -29,7 +30,8 @@ fn settle_once<J: Naming, R: Wait>(
     seat: &mut Seat<J>,
     runs: &mut Runs,
 ) -> Result<(), StreamFault>
-    ensures { IfErr result CameOfTurns }
+    ensures begun { IfErr result CameOfTurns }
+    ensures made { MadeByTurns J.start seat.old → MadeByTurns J.start seat.new }
 {
     for whose in 0..=shared.nodes() {
         match make_turn(rt, shared, seat, runs, whose, 0) {
@@ -55,6 +57,7 @@ pub(crate) fn settle<J: Naming, R: Wait>(
     ensures made { turns.new.made ≡ turns.old.made }
     ensures busy { turns.new.is_busy ≡ turns.old.is_busy }
     ensures begun { IfErr result CameOfTurns }
+    ensures turns { MadeByTurns J.start seat.old → MadeByTurns J.start seat.new }
 {
     if !turns.may_settle() {
         return Err(StreamFault::JournalFull);

@@ -106,6 +106,7 @@ fn stream_parts<
     requires names { Names J.roll J.first J.start J.node J.mark J.flusher J.host J.sights J.room J.accepted device.parts }
     requires stands { IsMadeOf device.opened.value device.parts device.raiser }
     requires bound { device.parts.book.room ≡ Some (room device.opened.value.head.topology device.opened.value.head.areas.length) }
+    requires network { J.start ≡ device.opened.value.cut }
     requires cut { IsCut t414_ends device.opened.value.head.topology device.opened.value.base device.opened.value.cut }
     requires bytes { AllByRecursion IsNodeOfBytes device.opened.value.cut.nodes }
     requires place { device.store.place ≡ place_at device.opened.value }
@@ -117,7 +118,7 @@ fn stream_parts<
     ensures size { D.size_of result.0 ≡ D.size_of device.store.disk }
     ensures premise { WereTrue (D.reads device.store.disk) (D.reads result.0) }
     ensures streamed { AreTrue (D.reads result.0) → Began J.formatted J.before (D.state device.store.disk).now.bytes
-        → ServedInto J.formatted (next_of device.opened.value) (map (λ i. given_input i.port (I.input i.source)) streams.old.inputs.items) (accepted_opened device.opened.value) result.1 streams.old.outputs.items streams.new.outputs.items (D.state device.store.disk) (D.state result.0) }
+        → ServedInto J.formatted device.opened.value.cut (next_of device.opened.value) (map (λ i. given_input i.port (I.input i.source)) streams.old.inputs.items) (accepted_opened device.opened.value) result.1 streams.old.outputs.items streams.new.outputs.items (D.state device.store.disk) (D.state result.0) }
     ensures why { IfOk result.1 (λ ended. IsAsked task ended.why) }
     ensures looks { IfOk result.1 (λ ended. HaveLooked task (P.answers stop.old) (P.answers stop.new) (Some ended.why)) }
     ensures over { IfOk result.1 (λ ended. LeavesNoInput (list_all (λ i. is_over i.ended i.is_blocked) streams.new.inputs.items) ended.why) }
@@ -167,10 +168,10 @@ fn stream_parts<
 ///
 /// A crash at any moment of the call leaves one of two things. Either a crash just before the call might have left it, too; or it opens to the
 /// network that a prefix of the journal leads to. That prefix has all that the device had. After a finished stream the prefix has each entry below
-/// the answered number, and the journal has no others.
+/// the answered number, and the journal has no others. A turn or the host made each of those that it has since the opening, once.
 ///
 /// However the stream ends, each byte that its entries hand to a port is the one that an input of the port has at that position: none comes twice, and
-/// none is left out.
+/// none is left out. No entry confirms more of a port's outputs than was put.
 ///
 /// However the stream ends, what a sink got are outputs of its port, and whatever a crash leaves from then on has the entries that lead to them. If
 /// the stream ended as quiet, or since all turns were made, they are all that the port has put out, and all are confirmed. `Output` says that, at

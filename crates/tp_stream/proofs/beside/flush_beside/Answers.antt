@@ -7,6 +7,7 @@ use Rattle.tp_stream.proofs.beside.flush_beside.Goals as goal
 pub loop-init : goal.loop-init
 loop-init g c = record {
   queue = c.requires.queue;
+  made = c.requires.made;
   process = record { opened = refl; size = refl; topology = refl };
   failures = λ rests. none_failed c.args.flusher.now rests;
   premise = λ k. k;
@@ -19,6 +20,7 @@ loop-preserved g c =
     let Q = c.flush.ensures.process in
     record {
       queue = c.help_seated.ensures.queue;
+      made = c.help_seated.ensures.made;
       process = record { opened = Q.opened ∙ P.opened; size = Q.size ∙ P.size; topology = Q.topology ∙ P.topology };
       failures = λ rests.
           let F = c.loop.invariant.failures rests in failed_then false c.args.flusher.now c.loop.flusher c.flush.new.flusher F (c.in_default-flush.ensures.failures F.at);

@@ -3,6 +3,7 @@ use Rattle.tp_stream_files.specs.Inputs.{given_input}
 use Rattle.tp_stream.proofs.FailedEnds.{with_inputs, with_outputs}
 use Rattle.tp_stream.proofs.Failures.{if_err}
 use Rattle.tp_stream.proofs.HandedFrom.{fed_back, fed_still, fed_then}
+use Rattle.tp_stream.proofs.Noting.{noted_back}
 use Rattle.tp_stream.proofs.pumping.pump.Goals as goal
 
 pub returns-in_err-put-clause-ends : goal.returns-in_err-put-clause-ends
@@ -40,3 +41,26 @@ returns-clause-fed g c =
     let many : length inputs ≡ was.len = omega (arith, c.pump_inputs.auto.inputs, c.deref_mut-2.ensures.len) in
     fed_then g.J.Naming.accepted _ _ _ _ _ _ (fed_still g.J.Naming.accepted (map (λ i. given_input i.port (g.I.Source.input i.source)) was.items) _ _ c.step_outputs.ensures.unfed)
     (fed_back (λ i. given_input i.port (g.I.Source.input i.source)) g.J.Naming.accepted was.items c.deref_mut-2.result.now inputs was.len _ _ many c.deref_mut-2.ensures.value c.pump_inputs.ensures.fed)
+
+-- ## What the seat and the host's key show
+
+pub returns-in_err-put-clause-noted : goal.returns-in_err-put-clause-noted
+returns-in_err-put-clause-noted g c =
+    let outputs = c.step_outputs.new.outputs in
+    let was = c.args.streams.now.outputs in
+    let long : length outputs ≡ was.len = omega (arith, c.step_outputs.auto.outputs, c.deref_mut.ensures.len) in
+    noted_back was.items c.deref_mut.result.now outputs was.len _ _ _ _ long c.deref_mut.ensures.value c.step_outputs.ensures.noted
+
+pub returns-then-eq-clause-noted : goal.returns-then-eq-clause-noted
+returns-then-eq-clause-noted g c =
+    let outputs = c.step_outputs.new.outputs in
+    let was = c.args.streams.now.outputs in
+    let long : length outputs ≡ was.len = omega (arith, c.step_outputs.auto.outputs, c.deref_mut.ensures.len) in
+    noted_back was.items c.deref_mut.result.now outputs was.len _ _ _ _ long c.deref_mut.ensures.value c.step_outputs.ensures.noted
+
+pub returns-clause-noted : goal.returns-clause-noted
+returns-clause-noted g c N =
+    let outputs = c.step_outputs.new.outputs in
+    let was = c.args.streams.now.outputs in
+    let long : length outputs ≡ was.len = omega (arith, c.step_outputs.auto.outputs, c.deref_mut.ensures.len) in
+    c.pump_inputs.ensures.noted _ (noted_back was.items c.deref_mut.result.now outputs was.len _ _ _ _ long c.deref_mut.ensures.value c.step_outputs.ensures.noted N)

@@ -11,3 +11,6 @@ returns-in_err-step_inputs-clause-ends g c outputs =
 
 pub returns-clause-fed : goal.returns-clause-fed
 returns-clause-fed g c = fed_then g.J.Naming.accepted _ _ _ _ _ _ c.step_inputs.ensures.fed c.step_inputs-2.ensures.fed
+
+pub returns-clause-noted : goal.returns-clause-noted
+returns-clause-noted g c outputs N = c.step_inputs-2.ensures.noted outputs (c.step_inputs.ensures.noted outputs N)

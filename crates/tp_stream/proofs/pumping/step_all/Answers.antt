@@ -1,5 +1,5 @@
 use Rattle.std.proofs.Common.{rules, ◌≡◌, ◌+◌, ◌-◌, ◌<◌, true, length, Err, refl, subst, ◌∙◌, arith}
-use Rattle.std.proofs.lemmas.List.{length-set}
+use Rattle.tp_stream.proofs.Lower.{length-set, slice_get-get_or}
 use Rattle.tp_stream.specs.Rooms.{has_room_for}
 use Rattle.tp_stream.specs.Steps.{PutsLeft}
 use Rattle.tp_stream.specs.Streamed.{OtherThanFull}
@@ -10,7 +10,7 @@ use Rattle.tp_stream.proofs.Puts.{all_left, each_any, each_more, left_nothing, l
 use Rattle.tp_stream.proofs.pumping.step_all.Goals as goal
 
 pub loop-output-init : goal.loop-output-init
-loop-output-init g c = record { left = all_left c.args.held.now.book; puts = refl; many = refl; unfed = λ p. refl; room = λ journal L there. (L, let none : length c.args.outputs.now ≡ length c.args.outputs.now - 0 = omega arith in subst (λ n. has_room_for journal c.args.held.now.book n ≡ true) none there) }
+loop-output-init g c = record { left = all_left c.args.held.now.book; puts = refl; many = refl; unfed = λ p. refl; noted = λ N. N; room = λ journal L there. (L, let none : length c.args.outputs.now ≡ length c.args.outputs.now - 0 = omega arith in subst (λ n. has_room_for journal c.args.held.now.book n ≡ true) none there) }
 
 pub step_output-requires : goal.step_output-requires
 step_output-requires g c k began =
@@ -30,6 +30,7 @@ loop-output-preserved g c =
           (puts_left b c.loop-output.held.book mark _ c.step_output.new.output I.left E.puts);
       many = length-set c.loop-output.outputs c.loop-output.output-index c.step_output.new.output ∙ I.many;
       unfed = λ p. E.unfed p ∙ I.unfed p;
+      noted = λ N. E.noted c.loop-output.outputs c.loop-output.output-index (slice_get-get_or c.loop-output.outputs c.loop-output.output-index c.output-item.result within) (I.noted N);
       room = λ journal L there.
           let many = I.many in
           let R = I.room journal L there in
@@ -75,3 +76,9 @@ returns-in_err-step_output-clause-ends g c inputs =
 
 pub returns-in_err-step_output-clause-unfed : goal.returns-in_err-step_output-clause-unfed
 returns-in_err-step_output-clause-unfed g c p = c.step_output.ensures.unfed p ∙ c.loop-output.invariant.unfed p
+
+pub returns-in_err-step_output-clause-noted : goal.returns-in_err-step_output-clause-noted
+returns-in_err-step_output-clause-noted g c N =
+    let within : c.loop-output.output-index < length c.loop-output.outputs = omega arith in
+    c.step_output.ensures.noted c.loop-output.outputs c.loop-output.output-index (slice_get-get_or c.loop-output.outputs c.loop-output.output-index c.output-item.result within)
+    (c.loop-output.invariant.noted N)

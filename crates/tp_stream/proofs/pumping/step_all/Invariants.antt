@@ -2,6 +2,7 @@
 use Rattle.std.proofs.Common.{◌≡◌, ◌-◌, true, length}
 use Rattle.tp_area.specs.declared.journal.JournalRoom.{JournalRoom}
 use Rattle.tp_stream.specs.HandedFrom.{HandsNoBytes}
+use Rattle.tp_stream.specs.Noted.{StepsNoted}
 use Rattle.tp_stream.specs.Rooms.{UnreservedBook, has_room_for}
 use Rattle.tp_stream.specs.Steps.{AreLeft, PutsLeft}
 use Rattle.tp_stream.proofs.Puts.{EachTo}
@@ -13,6 +14,7 @@ invariant-loop-output g l = record {
   puts : EachTo (PutsLeft l.fn.held.book l.flusher.world.mark) l.output-index l.fn.outputs l.outputs;
   many : length l.outputs ≡ length l.fn.outputs;
   unfed : HandsNoBytes l.fn.host l.host;
+  noted : StepsNoted l.fn.outputs l.fn.seat l.fn.host → StepsNoted l.outputs l.seat l.host;
   room :
       (journal : JournalRoom) → UnreservedBook journal l.fn.held.book → has_room_for journal l.fn.held.book (length l.fn.outputs) ≡ true
       → UnreservedBook journal l.held.book × (has_room_for journal l.held.book (length l.fn.outputs - l.output-index) ≡ true);

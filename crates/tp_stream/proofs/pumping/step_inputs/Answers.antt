@@ -16,7 +16,7 @@ returns-in_err-step_input-clause-ends g c outputs =
 -- ## What was handed in
 
 pub loop-input-init : goal.loop-input-init
-loop-input-init g c = record { fed = fed_none g.J.Naming.accepted (map (λ i. given_input i.port (g.I.Source.input i.source)) c.args.inputs.now) c.args.host.now }
+loop-input-init g c = record { fed = fed_none g.J.Naming.accepted (map (λ i. given_input i.port (g.I.Source.input i.source)) c.args.inputs.now) c.args.host.now; noted = λ outputs N. N }
 
 pub loop-input-preserved : goal.loop-input-preserved
 loop-input-preserved g c =
@@ -26,6 +26,7 @@ loop-input-preserved g c =
       fed =
           fed_set (λ i. given_input i.port (g.I.Source.input i.source)) g.J.Naming.accepted _ c.loop-input.inputs c.loop-input.input-index c.input-item.result c.step_input.new.input c.args.host.now c.loop-input.host c.step_input.new.host within
           (given_same _ _ _ _ E.same.0 E.same.1) c.loop-input.invariant.fed E.fed;
+      noted = λ outputs N. E.noted outputs (c.loop-input.invariant.noted outputs N);
     }
 
 pub returns-in_err-step_input-clause-fed : goal.returns-in_err-step_input-clause-fed
@@ -34,3 +35,6 @@ returns-in_err-step_input-clause-fed g c =
     let E = c.step_input.ensures in
     fed_set (λ i. given_input i.port (g.I.Source.input i.source)) g.J.Naming.accepted _ c.loop-input.inputs c.loop-input.input-index c.input-item.result c.step_input.new.input c.args.host.now c.loop-input.host c.step_input.new.host within
     (given_same _ _ _ _ E.same.0 E.same.1) c.loop-input.invariant.fed E.fed
+
+pub returns-in_err-step_input-clause-noted : goal.returns-in_err-step_input-clause-noted
+returns-in_err-step_input-clause-noted g c outputs N = c.step_input.ensures.noted outputs (c.loop-input.invariant.noted outputs N)

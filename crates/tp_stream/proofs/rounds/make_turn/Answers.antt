@@ -10,5 +10,5 @@ node_had : (start : Network NodeState) (number : ℕ) (r : Result Did Refusal) �
 node_had start number (Ok did) there rests = λ nothing. record { node = λ low. rests nothing; host = λ high. absurd (omega (arith, there, high)) }
 node_had start number (Err refusal) there rests = tt
 
-pub returns-else-whose-nodes : goal.returns-else-whose-nodes
-returns-else-whose-nodes g c = node_had g.J.Naming.start c.args.whose c.node_turn.result (omega arith) c.node_turn.ensures
+pub returns-else-whose-nodes-clause-had : goal.returns-else-whose-nodes-clause-had
+returns-else-whose-nodes-clause-had g c = node_had g.J.Naming.start c.args.whose c.node_turn.result (omega arith) c.node_turn.ensures.rests

@@ -5,7 +5,7 @@ pub returns-in-Ok-clause-rested : goal.returns-in-Ok-clause-rested
 returns-in-Ok-clause-rested g c =
     let T = c.count.ensures in
     turn_more g.J.Naming.start c.nodes-nodes.result c.args.turns.now.whose c.args.turns.now.idle c.count.new.self.whose c.count.new.self.idle c.nodes-nodes.ensures
-    c.requires.rested T.whose T.one (λ some. record { had = c.in-Ok.ensures ((T.rests some).0); still = c.requires.still ((T.rests some).1) })
+    c.requires.rested T.whose T.one (λ some. record { had = c.in-Ok.ensures.had ((T.rests some).0); still = c.requires.still ((T.rests some).1) })
 
 pub returns-in-None-clause-rested : goal.returns-in-None-clause-rested
 returns-in-None-clause-rested g c =

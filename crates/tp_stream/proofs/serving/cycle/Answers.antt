@@ -71,3 +71,9 @@ returns-in_err-flush-clause-ends g c =
 
 pub returns-in_err-flush-clause-fed : goal.returns-in_err-flush-clause-fed
 returns-in_err-flush-clause-fed g c = fed_none g.J.Naming.accepted (map (λ i. given_input i.port (g.I.Source.input i.source)) c.args.streams.now.inputs.items) c.args.going.now.host
+
+pub returns-in_err-flush-clause-noted : goal.returns-in_err-flush-clause-noted
+returns-in_err-flush-clause-noted g c N = N
+
+pub returns-clause-noted : goal.returns-clause-noted
+returns-clause-noted g c N = c.go_on.ensures.noted N

@@ -64,3 +64,23 @@ returns-clause-fed g c =
     let many : length inputs ≡ was.len = omega (arith, c.rest_or_turn.auto.inputs, c.deref_mut.ensures.len) in
     fed_then g.J.Naming.accepted _ _ _ _ _ _ c.pump.ensures.fed
     (fed_back (λ i. given_input i.port (g.I.Source.input i.source)) g.J.Naming.accepted was.items c.deref_mut.result.now inputs was.len _ _ many c.deref_mut.ensures.value c.rest_or_turn.ensures.fed)
+
+-- ## What seats and the host's key show
+
+pub returns-in_err-settle-clause-noted : goal.returns-in_err-settle-clause-noted
+returns-in_err-settle-clause-noted g c N = record { made = c.settle.ensures.turns N.made; noted = N.noted }
+
+pub returns-then-may_settle-clause-noted : goal.returns-then-may_settle-clause-noted
+returns-then-may_settle-clause-noted g c N = record { made = c.settle.ensures.turns N.made; noted = N.noted }
+
+pub returns-in_err-pumped-clause-noted : goal.returns-in_err-pumped-clause-noted
+returns-in_err-pumped-clause-noted g c N = record { made = N.made; noted = c.pump.ensures.noted N.noted }
+
+pub returns-in-Some-clause-noted : goal.returns-in-Some-clause-noted
+returns-in-Some-clause-noted g c N = record { made = N.made; noted = c.pump.ensures.noted N.noted }
+
+pub returns-in_err-rest_or_turn-clause-noted : goal.returns-in_err-rest_or_turn-clause-noted
+returns-in_err-rest_or_turn-clause-noted g c N = c.rest_or_turn.ensures.noted _ (record { made = N.made; noted = c.pump.ensures.noted N.noted })
+
+pub returns-clause-noted : goal.returns-clause-noted
+returns-clause-noted g c N = c.rest_or_turn.ensures.noted _ (record { made = N.made; noted = c.pump.ensures.noted N.noted })

@@ -20,7 +20,9 @@ loop-init g c = record {
   ends = tt;
   fed = fed_none g.J.Naming.accepted (map (λ i. given_input i.port (g.I.Source.input i.source)) c.args.streams.now.inputs.items) c.args.going.now.host;
   looks = none_looked c.args.ground.pace.task (g.P.Stop.answers c.args.stop.now);
+  noted = λ N. N;
   queue = c.requires.queue;
+  made = c.requires.made;
   rested = c.requires.rested;
 }
 
@@ -44,6 +46,8 @@ loop-preserved g c =
           c.lap-last.ensures.looks;
       ends = c.lap-last.ensures.ends;
       fed = fed_then g.J.Naming.accepted _ _ _ _ _ _ c.loop.invariant.fed c.lap-last.ensures.fed;
+      noted = λ N. c.lap-last.ensures.noted (c.loop.invariant.noted N);
       queue = c.lap-last.ensures.queue;
+      made = c.lap-last.ensures.made;
       rested = c.lap-last.ensures.rested;
     }

@@ -1,8 +1,9 @@
-use Rattle.std.proofs.Common.{false, length, sym, subst}
+use Rattle.std.proofs.Common.{false, length, sym, subst, ◌∙◌}
 use Rattle.tp_flush.specs.Known.{Began}
 use Rattle.tp_stream.specs.Failures.{answer_failed, fault_failed}
 use Rattle.tp_stream.specs.Put.{EndsPut}
 use Rattle.tp_stream.specs.Served.{ServedOn}
+use Rattle.tp_stream.proofs.Accounted.{accounted}
 use Rattle.tp_stream.proofs.FailedEnds.{flush_names_none, names_none}
 use Rattle.tp_stream.proofs.Failures.{flush_begun}
 use Rattle.tp_stream.proofs.Notices.{later_then}
@@ -49,3 +50,15 @@ returns-in-Ok-clause-put g c k began =
 
 pub returns-clause-ends : goal.returns-clause-ends
 returns-clause-ends g c = names_none _ _ c.in-Err-finish.fault (flush_names_none c.in-Err-finish.fault c.in-Err-finish.ensures.begun)
+
+-- ## Who made what
+
+pub finish-requires : goal.finish-requires
+finish-requires g c = record { first = c.mark-first.ensures ∙ c.requires.first }
+
+pub returns-in-Ok-clause-accounted : goal.returns-in-Ok-clause-accounted
+returns-in-Ok-clause-accounted g c k began =
+    let N = c.lead-going.ensures.noted in
+    let S = c.in-Ok.ensures.all k (subst (Began g.J.Naming.formatted g.J.Naming.before) (sym c.lead-going.ensures.served.process.opened) began) in
+    accounted g.J.Naming.start g.J.Naming.first c.in-Ok.next c.finish.new.flusher.world.journal c.lead-going.result.0.steps c.lead-going.result.0.seat _ c.lead-going.result.0.host N.noted.slips N.made
+    c.absorb.ensures S

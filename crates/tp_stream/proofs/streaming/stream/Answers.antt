@@ -14,6 +14,7 @@ use Rattle.tp_stream.proofs.Failures.{begun_answers, neither_answers, neither_fa
 use Rattle.tp_stream.proofs.Fitted.{begun_fits, not_begun_fits, opened_ports, unfit}
 use Rattle.tp_stream.proofs.Notices.{first_later}
 use Rattle.tp_stream.proofs.Runs.{begun_written, into, unput, unwritten}
+use Rattle.tp_stream.proofs.Started.{shape_is}
 use Rattle.tp_stream.proofs.Standings.{begun_refused, begun_short, no_input, no_output, on_ok, same_opened, says_first, says_short}
 use Rattle.tp_stream.proofs.streaming.stream.Goals as goal
 
@@ -23,7 +24,8 @@ same_device reads same k = subst (λ d. AreTrue (reads d)) same k
 
 pub stream_parts-requires-clause-names : goal.stream_parts-requires-clause-names
 stream_parts-requires-clause-names g c κs within =
-    record { roll_is = refl; first_is = refl; wires_are = refl; count_is = refl; ports_are = refl; nodes_are = λ i. refl; mark_is = refl; flusher_is = refl; host_is = refl; sights_is = refl; room_is = refl; accepted_is = λ p. refl }
+    let N = shape_is c.in-Ok.opened c.of-known.result.value _ _ c.of-known.ensures c.in-Ok-parts_of.ensures.parts c.known.ensures.cut in
+    record { roll_is = refl; first_is = refl; wires_are = N.0; count_is = N.1; ports_are = N.2; nodes_are = λ i. refl; mark_is = refl; flusher_is = refl; host_is = refl; sights_is = refl; room_is = refl; accepted_is = λ p. refl }
 
 pub returns-in-Err-clause-streamed : goal.returns-in-Err-clause-streamed
 returns-in-Err-clause-streamed g c k began =
@@ -81,9 +83,9 @@ returns-clause-put g c k began =
     let unread = map (λ i. given_input i.port (g.I.Source.input i.source)) c.parts_of.new.streams.inputs.items in
     into start inputs done o was set now (g.D.Disk.state c.args.disk) (g.D.Disk.state c.open.new.disk) (g.D.Disk.state c.stream_parts.result.0) c.open.ensures.leaves kept
     (c.in-Ok.ensures.is read) c.in-Ok-parts_of.ensures.set
-    (subst (λ d. ServedInto start (next_of o) inputs (accepted_opened o) done set now (g.D.Disk.state d) (g.D.Disk.state c.stream_parts.result.0)) c.store-store.ensures.disk
-    (subst (λ is. ServedInto start (next_of o) is (accepted_opened o) done set now (g.D.Disk.state c.store-store.result.disk) (g.D.Disk.state c.stream_parts.result.0)) c.in-Ok-parts_of.ensures.unread
-    (subst (λ x. ServedInto start (next_of x) unread (accepted_opened x) done set now (g.D.Disk.state c.store-store.result.disk) (g.D.Disk.state c.stream_parts.result.0)) (c.of-known.ensures)
+    (subst (λ d. ServedInto start o.cut (next_of o) inputs (accepted_opened o) done set now (g.D.Disk.state d) (g.D.Disk.state c.stream_parts.result.0)) c.store-store.ensures.disk
+    (subst (λ is. ServedInto start o.cut (next_of o) is (accepted_opened o) done set now (g.D.Disk.state c.store-store.result.disk) (g.D.Disk.state c.stream_parts.result.0)) c.in-Ok-parts_of.ensures.unread
+    (subst (λ x. ServedInto start x.cut (next_of x) unread (accepted_opened x) done set now (g.D.Disk.state c.store-store.result.disk) (g.D.Disk.state c.stream_parts.result.0)) (c.of-known.ensures)
     (c.stream_parts.ensures.streamed k (subst (Began start g.history.before) (sym same) began)))))
 
 pub returns-clause-streamed : goal.returns-clause-streamed

@@ -1,4 +1,3 @@
-use Rattle.std.proofs.Common.{[]}
 use Rattle.tp_stream.proofs.Lower.{port_in, accepted_of, name_of}
 use Rattle.tp_stream.proofs.streaming.stream.Given as goal
 
@@ -6,7 +5,7 @@ abbrev pub ghosts-stream_parts : goal.ghosts-stream_parts
 ghosts-stream_parts g a = record {
   roll = a.device.parts.roll;
   first = a.device.parts.first;
-  start = record { wires = a.device.parts.book.state.start.wires; nodes = a.device.parts.book.state.start.nodes; ports = a.device.parts.book.state.ports; lines = [] };
+  start = a.device.opened.value.cut;
   node = name_of a.device.parts.seals;
   mark = a.device.parts.mark;
   flusher = a.device.parts.flusher;

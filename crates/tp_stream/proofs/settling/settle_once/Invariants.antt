@@ -1,0 +1,6 @@
+-- What turns journalled so far has its slips in the seat.
+use Rattle.tp_stream.specs.Accounted.{MadeByTurns}
+use Rattle.tp_stream.proofs.settling.settle_once.Given as goal
+
+abbrev pub invariant-loop-whose : goal.invariant-loop-whose
+invariant-loop-whose g l = record { made : MadeByTurns g.J.Naming.start l.fn.seat → MadeByTurns g.J.Naming.start l.seat }
