@@ -1,6 +1,5 @@
 use Rattle.std.proofs.Common.{◌≡◌, Some, map, rules, sym, subst}
-use Rattle.std.proofs.lemmas.List.Elements.{All-pop}
-use Rattle.tp_stream.proofs.Lower.{given_input}
+use Rattle.tp_stream.proofs.Lower.{All-pop, given_input}
 use Rattle.tp_stream.specs.Accounted.{MadeByTurns}
 use Rattle.tp_stream.specs.HandedFrom.{FedFrom}
 use Rattle.tp_stream.specs.Noted.{AllNoted}
