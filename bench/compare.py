@@ -12,13 +12,18 @@ is kept as an image in the working folder, and the exit status is then 1. Each r
 machine is; one that is killed counts as a difference.
 
 A third of the images write into their own code: ahead of them, into the next instruction, into those that were just made, and from a
-workspace in whose 64 bytes the code begins.
+workspace in whose 64 bytes the code begins. A quarter are loops of GROUPS.
 
-With --sweep each instruction of docs/MACHINE.md is the first, a middle and the last one of a straight row, with registers and operands
-that are inside, at an edge and outside; and each group of SET (GROUPS if none is named; `bench/count-runs --json` writes one) is
+With --sweep each instruction of docs/MACHINE.md is the first, a middle and the last one of a straight row, with registers, operands and
+workspaces that are inside, at an edge and outside; and each group of SET (GROUPS if none is named; `bench/count-runs --json` writes one) is
 made with as many instructions before it that a turn of 16 steps ends before and within it, at each of its steps. With --whole, which
-compares all that a node has, the row is cut once within it, at another step in each image, and once after it. Then come loops (`loops`): each writes its own code by a store, at each distance
-from it; has rows by turns that differ in half a byte and whose addresses differ by 1024; enters a row at each of its bytes; or jumps as a slice ends.
+compares all that a node has, the row is cut once within it, at another step in each image, and once after it. Then come messages to and from
+a process that waits at its channel, in a row, and loops (`loops`). Each loop does one of these:
+
+- It writes its own code by a store, by a group that ends with one, or by a message, at each distance from the instruction after it.
+- It has rows by turns that differ in half a byte and whose addresses differ by 1024.
+- It enters a row at each of its bytes.
+- It jumps as a slice ends.
 
 With --cases nothing is compared: the images go into a new folder, each with what the plain interpreter prints beside it. Then
 a program without any proof is compared by: cd crates/tpnet && rt try --cases FOLDER -- try {} --turns 700
@@ -168,6 +173,21 @@ def beside(rng, base):
     return setting + closed(body, 20)
 
 
+def grouped(rng, base):
+    """A loop of the groups that may be done as one. Half of such programs store near the place where they are."""
+    near = rng.random() < 0.5
+    setting = do("ldc", 0) + do("stl", 20) + do("ldc", rng.randrange(2, 5)) + do("stl", 21)
+    body = b""
+    for _ in range(rng.randrange(2, 12)):
+        for name in rng.choice(GROUPS):
+            here = (base + len(setting) + len(body) + rng.randrange(-24, 24) - WORK) // 4
+            operand = {"ldc": rng.choice([rng.randrange(20), rng.randrange(20), rng.choice(EDGES), WORK + rng.randrange(80)]),
+                       "stl": here if near and rng.random() < 0.4 else rng.randrange(5, 16), "ldl": rng.randrange(5, 20),
+                       "ldlp": rng.randrange(5, 16), "cj": rng.randrange(3), "call": rng.randrange(3), "ldnlp": rng.randrange(300)}
+            body += instruction(name, operand.get(name, rng.randrange(-1, 3)))
+    return setting + closed(body, 20)
+
+
 def prefixes(rng):
     """Instructions behind many prefix bytes, some behind one too many."""
     code = b""
@@ -267,6 +287,9 @@ def image(rng, kind):
     elif kind == "beside":
         begin = WORK + 96 + rng.randrange(32)
         code = beside(rng, begin)
+    elif kind == "groups":
+        begin = WORK + 96 + rng.randrange(32)
+        code = grouped(rng, begin)
     elif kind == "prefixes":
         code = prefixes(rng)
     else:
@@ -315,22 +338,72 @@ STORES = dict(
     + do("ajw", 2 - (place - WORK) // 4))
 
 
+# The same by the groups whose last instruction stores: word 8 has the four instructions, word 14 three of them.
+PIECED = ADCS + do("stl", 8) + do("ldl", 8) + do("ldc", 8) + op(0x40) + do("stl", 14)
+WORDS = [(WORK + 4 * k, struct.pack("<I", word)) for k, word in ((9, 3), (10, WORK), (11, 0), (12, WORK + 32), (15, WORK - 4 >> 2 & 0x3FFFFFFF))]
+ENDS = ["ldl 8 stl +0", "ldc 129 stl +0", "ldl 8 adc 0 stl +0", "ldc 0 adc 0 ldl 8 sum stl +0", "ldc 0 adc 0 ldl 8 add stl +0",
+        "ldl 8 ldl 11 sum stl +0", "ldl 8 ldl 11 add stl +0", "ldl 8 ldl 11 diff stl +0", "ldl 12 lb stl +0", "ldl 8 ldc 8 shr stl +0",
+        "ldl 14 adc 0 ldc 256 rem stl +0", "ldl 8 adc 0 ldc 0 xor stl +0", "ldl 8 ldl 9 ldl 10 wsub stnl -3",
+        "ldl 8 adc 0 ldl 9 ldl 10 wsub stnl -3", "ldl 8 adc 0 ldl 9 ldlp 0 wsub stnl -3", "ldl 8 ldl 15 ldc 4 wsub stnl +0",
+        "ldl 8 adc 0 ldl 10 ldc * bsub sb"]
+
+
+def ended(words):
+    """The store of a group, by a place. +N is the place's word, counted from the workspace and N, and * its byte."""
+    def store(place):
+        code, rest = b"", words.split()
+        while rest:
+            name = rest.pop(0)
+            last = rest.pop(0) if name in NAMES else "0"
+            operand = place - WORK if last == "*" else (place - WORK) // 4 + int(last) if name in ("stl", "stnl") else int(last)
+            code += instruction(name, operand)
+        return code
+
+    return store
+
+
 def rounds(count, body, begin=CODE):
     """A loop that is made `count` times, with its number in word 6. `body` gives what it makes, by the address where that begins."""
     setting = do("ldc", 0) + do("stl", 6) + do("ldc", count) + do("stl", 7)
     return setting + closed(body(begin + len(setting)), 6)
 
 
-def written_over(store, gap, distance, begin):
+def written_over(store, gap, distance, begin, ahead=b"", more=()):
     """A loop whose store writes other instructions in each round, so far from the one that comes right after it."""
     def body(at):
-        before = do("ldl", 5) + do("adc", 1) * 8 + do("stl", 5) + do("ajw", 0) * gap
+        before = ahead + do("ldl", 5) + do("adc", 1) * 8 + do("stl", 5) + do("ajw", 0) * gap
         made = before
         for _ in range(4):
             made = before + store(at + len(made) + distance)
         return made + do("ldl", 5) + do("adc", 1) * 12 + do("stl", 5)
 
-    return straight(rounds(4, body, begin), STACKS[1], begin=begin)
+    return straight(rounds(4, body, begin), STACKS[1], begin=begin, more=more)
+
+
+def met_over(number, distance, begin):
+    """A loop whose message to or from a process that waits at its channel is copied over its own code."""
+    def ask(pointer, number):
+        return do("ldc", pointer) + do("ldc", CHANNEL) + do("ldc", 4) + op(number)
+
+    def body(at):
+        before = ADCS + do("stl", 8) + do("ldl", 5) + do("adc", 1) * 8 + do("stl", 5)
+        place.append(at + len(before) + len(ask(CODE, number)) + distance)
+        return before + ask(place[-1] if number == 0x07 else WORK + 32, number) + do("ldl", 5) + do("adc", 1) * 12 + do("stl", 5)
+
+    place = []
+    made = rounds(4, body, begin)
+    other = ask(WORK + 32, 0x0B) if number == 0x07 else ask(place[-1], 0x07)
+    return straight(made, STACKS[1], begin=begin, low=PARTNER, more=[
+        (CHANNEL, struct.pack("<I", FIRST)), (PARTNER - 4, struct.pack("<I", PARTNER + 64)), (PARTNER + 64, other + do("j", -len(other) - 2))])
+
+
+def meeting(number, before, partner, pointer, count, low, channel):
+    """A message to or from a process of that descriptor, in a row. It changes a word that is put out when it goes on."""
+    row = do("ajw", 0) * before + op(number) + do("adc", 1) * 4
+    other = do("ldc", 7) + do("ldc", WORK + 60) + do("stnl", 0) + op(0x15)
+    return straight(row, (count, channel, WORK + 0x41), low=low, more=[
+        (CHANNEL, struct.pack("<I", partner)), (PARTNER - 12, struct.pack("<I", pointer)), (PARTNER - 4, struct.pack("<I", PARTNER + 64)),
+        (PARTNER + 64, other), (PARTNER + 0xFC, struct.pack("<I", PARTNER + 64))])
 
 
 def going(at, to):
@@ -385,6 +458,22 @@ def loops():
         for distance in range(-24, 24):
             for begin in range(WORK + 96, WORK + 100):
                 yield written_over(store, (distance + begin) % 3, distance, begin)
+    for words in ENDS:
+        for distance in range(-24, 24):
+            for begin in range(WORK + 96, WORK + 100):
+                yield written_over(ended(words), (distance + begin) % 3, distance, begin, PIECED, WORDS)
+    for number in (0x07, 0x0B):
+        for distance in range(-24, 24):
+            for begin in range(WORK + 96, WORK + 100):
+                yield met_over(number, distance, begin)
+        for before in (0, 2, 4):
+            for count in (0, 1, 4, 17, 0xFFFFFFFF):
+                for low in (FIRST, PARTNER + 0x100):
+                    for partner in (FIRST, PARTNER, PARTNER + 1):
+                        for pointer in (WORK + 0x31, OUTSIDE - 2, 0x80000001, 0x80000002, 0x80000003):
+                            yield meeting(number, before, partner, pointer, count, low, CHANNEL)
+                    for channel in (*range(FIRST, FIRST + 40, 4), FIRST + 1, CHANNEL + 2, OUTSIDE):
+                        yield meeting(number, before, PARTNER + 1, WORK + 0x31, count, low, channel)
     for length in range(1, 17):
         for row, other in lengthened(length):
             yield in_one_place(row, other)
@@ -407,7 +496,8 @@ def sweep(groups):
             for stack in STACKS:
                 for operand in (1, 3, 2000, -2000) if name in NAMES else (0,):
                     row = neutral * before + instruction(name, operand) + neutral * after
-                    yield straight(row, stack, WORK, 2), before + 1 + after
+                    for wptr in (WORK, FIRST + 8, OUTSIDE - 4) if stack == STACKS[0] else (WORK,):
+                        yield straight(row, stack, wptr, 2), before + 1 + after
     for group in groups:
         for operands in ((5, 6, 7, 8), (8, 1, 5, 2), (6, 2000, 5, 3), (2000, 5, 6, 7), (5, 6, 2000, 3), (0, 0, 0, 0)):
             row = b"".join(instruction(name, operand) for name, operand in zip(group, operands))
@@ -434,14 +524,15 @@ def tried(tpnet, plain, path):
     return [run([tpnet, "try", path, "--turns", str(TURNS), "--explain"]), run([plain, "try", path, str(TURNS), "--explain"])]
 
 
-KINDS = ["arithmetic", "memory", "processes", "processes", "wild", "prefixes", "rewriting", "beside", "beside"]
+KINDS = ["arithmetic", "memory", "processes", "processes", "wild", "prefixes", "rewriting", "beside", "beside", "groups", "groups", "groups"]
 
 # Groups of instructions that may be done as one.
 GROUPS = [words.split() for words in (
     "ldl adc stl", "ldlp ldc ldc", "ldl ldc", "ldl eqc cj", "ldlp ldc lend", "ldl cj", "ldc ldl gt cj", "ldl sum stl", "ldl add stl",
     "ldl wsub ldnl", "ldl wsub stnl", "ldl add", "ldl sum", "ldl ldl wsub ldnl", "ldl ldl wsub stnl", "ldl adc", "ldc ldc", "ldl ldl",
     "ldc ldl", "ldl ldc bsub lb", "ldl ldc bsub sb", "ldc ldl ldc bsub", "gt cj", "eqc cj", "ldl gt cj", "ldl lb", "ldc stl", "ldl stl",
-    "adc stl", "sum stl", "ldc sum", "ldc add", "ldc bsub", "ldl ldnl", "ldl eqc", "ldlp ldc", "ldc ldl gt", "ldl ldl wsub", "ldc rem", "ldc xor", "ldc shr", "ldc and", "ldc mul", "wsub ldnl", "mint ldnlp", "prod ldl sum stl",
+    "adc stl", "sum stl", "ldc sum", "ldc add", "ldc bsub", "ldl ldnl", "ldl eqc", "ldlp ldc", "ldc ldl gt", "ldl ldl wsub", "ldl ldlp", "ldl wsub", "ldl gt", "ldl ldlp wsub",
+    "ldl ldl add", "ldl ldl sum", "ldl ldl diff", "ldl ldl gt", "ldl ldc and", "ldl ldc shr", "ldl ldc bsub", "ldc wsub", "ldc rem", "ldc xor", "ldc shr", "ldc and", "ldc mul", "wsub ldnl", "mint ldnlp", "prod ldl sum stl",
     "ldl ldl sum stl", "adc call", "ldl adc call", "ldl ldlp wsub ldnl", "ldl ldlp wsub stnl", "ldl ldl add stl", "ldl ldl diff stl",
     "ldl ldl gt cj", "ldl ldc and cj", "ldl ldc shr stl", "ldl ldc mul", "ldl ldc prod", "ldl ldc rem", "ldl ldc div", "ldl lb stl", "ldc rem stl",
     "ldc xor stl", "ldc wsub ldnl", "ldc wsub stnl")]
@@ -454,9 +545,12 @@ OPERATIONS = dict(
     ccnt1=0x4D, ldiff=0x4F, sum=0x52, mul=0x53, stoperr=0x55)
 OPERATIONS.update({"in": 0x07, "out": 0x0B, "not": 0x32, "and": 0x46, "or": 0x4B, "unknown": 0x60})
 OUTSIDE = 0x80001000
+# Where a channel is, and the workspace of the process that waits there.
+CHANNEL, PARTNER = 0x80000680, 0x80000700
 # A, B and C: addresses, small numbers, edges, what is outside.
 STACKS = [(WORK + 0x40, WORK + 0x60, 3), (5, 7, 1), (0, 0x80000000, 0xFFFFFFFF), (0x7FFFFFFF, 1, 0), (OUTSIDE, OUTSIDE - 4, WORK),
-          (WORK + 0x41, OUTSIDE, 0x80000004), (OUTSIDE - 1, WORK + 0x43, 4)]
+          (WORK + 0x41, OUTSIDE, 0x80000004), (OUTSIDE - 1, WORK + 0x43, 4), (0xFFFFFFFF, 0x80000000, 7), (3, FIRST, WORK + 0x60),
+          (3, FIRST + 0x10, WORK + 0x60), (3, FIRST + 0x20, WORK + 0x60)]
 
 
 def cases(folder, plain, count, seed):
