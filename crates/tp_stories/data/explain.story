@@ -252,7 +252,7 @@ text net.txt node a 4\nport h\nwire a h\n
 tpnet check net.txt . --explain
 text net.txt port g\nport h\nwire g h\n
 tpnet check net.txt . --explain
-text net.txt node a 4\x0D\nport h\x0D\nwire a h\x0D\n
+text net.txt node a 4\x0D\nport h\x0D\nwire a.0 h.0\x0D\n
 tpnet check net.txt . --explain
 text net.txt node a 4\nport h\nport i\nport j\nport k\nport l\nport m\nport n\nport o\nport p\n
 tpnet check net.txt . --explain
@@ -365,6 +365,9 @@ tpnet run device --turns=0 --in a.img --explain
 equal device before
 tpnet run device --turns=0 --in more
 tpnet run device --turns=0 --in more --explain
+# Just as much comes of it as an empty journal has room for.
+fill most 105 6D
+tpnet run device --turns=0 --in most --explain
 equal device before
 tpnet try /dev/null --turns=4
 tpnet try /dev/null --turns=4 --explain

@@ -81,6 +81,7 @@ copy one one_before
 copy five five_before
 copy six six_before
 keep five
+tpnet run device --stream --quantum=64 --until-quiet --discard 0
 tpnet run device --stream --quantum=64 --until-quiet --discard 0 --out 1=six
 tpnet run device --stream --quantum=64 --until-quiet --out 1=five --out 0=one
 equal one one_before

@@ -253,6 +253,11 @@ folder m
 tpnet waits device --map m
 tpnet waits device --map m --explain
 tpnet waits device --map none
+tpnet waits device --map n\x1B --explain
+# What is no regular file is no map.
+symlink /dev/null m/0.map
+tpnet waits device --map m --explain
+remove m/0.map
 text m/64.map 80000100\n
 tpnet waits device --map m
 text m/63.map 80000100 start a.asm:1\n80000101 - a.asm:\n
