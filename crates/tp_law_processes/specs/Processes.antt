@@ -57,8 +57,8 @@ IsHosts (Turn i links k) = ⊥
 abbrev pub IsAmong : ℕ → Entry → List (ℕ × Entry) → Type 0
 IsAmong number e slips = (place : ℕ) × (slice_get slips place ≡ Some (number, e))
 
--- The host of a process made the entry with this number, or a turn of a node or of the host did: it is among the slips of a run's worker, which has
--- made so many turns, or of a stream's turns. A compaction that was done, and a reading, make no entry.
+-- The host of a process made the entry with this number, or a turn of a node or of the host did: it is among the slips of one of a run's workers, or of a
+-- stream's turns. A worker is the number of its turns, and their slips. A compaction that was done, and a reading, make no entry.
 abbrev pub HasMaker : {start : Network NodeState} {old new : State} → Did start old new → Opened → ℕ → Entry → Type 0
 HasMaker (ByRun job input was now result clause) opened number e =
     IsHosts e ⊎ ((worker : ℕ × List (ℕ × Entry)) × Worked opened.cut job.quantum worker.0 worker.1 × IsAmong number e worker.1)
