@@ -17,6 +17,7 @@ if [ ! -e "$work/built" ]; then
     for name in book tails; do
         mkdir -p "$work/crates/bench_$name/src"
         cp "$top/bench/$name.rattle" "$work/crates/bench_$name/src/main.rt"
+        "$top/bench/with-disk" "$work/crates/bench_$name"
         echo "bench_$name: tp_book tp_disk tp_recover" >> "$work/crates.txt"
         (cd "$work/crates/bench_$name" && rt run > "$work/build-$name.log" 2>&1) || true
     done

@@ -86,6 +86,7 @@ abbrev pub invariant-${pair#*:} : goal.invariant-${pair#*:}
 invariant-${pair#*:} g l = l.seat.hand.of ≡ Some l.net.queue
 A
     done
+    "$top/bench/with-disk" "$turns"
     find "$turns" -type f | xargs sed -i 's/tp_tests_threads/bench_turns/g; s/proofs\.scenes\.play_in/proofs.time_in/g; s/-play\b/-time_all/g; s/play-requires/time_all-requires/g'
     sed -n 's/ tp_tests_[a-z]*//g; s/^tp_tests_threads:/bench_turns:/p' "$top/crates.txt" >> "$work/crates.txt"
     (cd "$turns" && rt run > "$work/build.log" 2>&1) || true

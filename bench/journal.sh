@@ -27,6 +27,7 @@ if [ ! -e "$work/built" ]; then
         sed 's/tp_tests_opening\.proofs\.devices/bench_journal.proofs/; s/tp_tests_opening/bench_journal/; s/^\(append_group[^ ]*\) c =/\1 g c =/' \
             "$top/crates/tp_tests_opening/proofs/$file.antt" > "$proof"
     done
+    "$top/bench/with-disk" "$work/crates/bench_journal"
     echo "mod Numbered" > "$work/crates/bench_journal/proofs/Lib.antt"
     echo "bench_journal: tp_area tp_disk tp_entry tp_model tp_recover" >> "$work/crates.txt"
     (cd "$work/crates/bench_journal" && rt run > "$work/build.log" 2>&1) || true

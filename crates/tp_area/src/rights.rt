@@ -1,11 +1,11 @@
-//! The rights to write devices. No other crate can make one.
+//! The rights to format a device, and to write a copy. No other crate can make one.
 //!
 //! A function that never returns owes no `ensures`. So what it writes before is ruled out by what `Disk::write_at` asks: that devices of this
-//! type may be written. A caller above this crate knows it, for any type of devices, only under one of these rights. `run` gets
-//! `Steps → D.writable ≡ true`: it can hand a device to a store, but it can't write or format it.
+//! type may be written. A caller above this crate knows it, for any type of devices, only under a right. The right to the steps of a store is made in
+//! `tp_flush` alone, in the same way.
 
 ghost use Rattle.std.specs.Prelude.{◌≡◌, true};
-ghost use Rattle.tp_area.specs.Rights.{Steps, Formats, Copies};
+ghost use Rattle.tp_area.specs.Rights.{Formats, Copies};
 
 use tp_disk::Disk;
 
@@ -13,11 +13,6 @@ use tp_disk::Disk;
 /// variant without a field is made by `grind` in any crate.
 pub(crate) enum Secret {
     Number(u64),
-}
-
-/// Who may step.
-pub(crate) enum Stepper {
-    By(Secret),
 }
 
 /// Who may format.
@@ -29,12 +24,6 @@ pub(crate) enum Formatter {
 pub(crate) enum Copier {
     By(Secret),
 }
-
-/// Says that a step of a store may write the device. It does nothing.
-pub(crate) fn may_step<D: Disk>()
-    requires { Steps → D.writable ≡ true }
-    ensures { D.writable ≡ true }
-{}
 
 /// Says that formatting may write the device. It does nothing.
 pub(crate) fn may_format<D: Disk>()

@@ -1,4 +1,5 @@
 pub mod Lower
+pub mod Rights
 pub mod Progress
 pub mod Copying
 pub mod CopiedIn

@@ -4,6 +4,7 @@ ghost use Rattle.std.specs.Prelude.{◌≡◌, Ok, Some, true, false};
 ghost use Rattle.tp_flush.specs.Lower.{AreTrue, AllByRecursion, IsNodeOfBytes, IsSynced, is_roomy, room, t414_ends, held_of, next_of, verdict, reopened, IsCut, unrisen, IsFirst};
 ghost use Rattle.tp_flush.specs.Known.{Began, Reached};
 ghost use Rattle.tp_flush.specs.Flushing.{AreGone, position};
+ghost use Rattle.tp_flush.specs.Rights.{Steps};
 
 use crate::progress::Progress;
 use crate::stored_mark::StoredMark;
@@ -32,6 +33,7 @@ pub(crate) struct Parts<D: Disk> {
     pub(crate) progress: Progress,
     pub(crate) pages_a_turn: usize,
     pub(crate) whole: Whole,
+    pub(crate) ghost allowed: { Steps → D.writable ≡ true },
 }
 
 /// Brings the book's entries to the device of one process, and raises its mark. It has what was seen of the book when it was told that a
@@ -84,6 +86,7 @@ impl<J: Naming, D: Disk> Flusher<J, D> {
         requires first { J.first ≡ next_of opened.value }
         requires cut { IsCut t414_ends opened.value.head.topology opened.value.base opened.value.cut }
         requires bytes { AllByRecursion IsNodeOfBytes opened.value.cut.nodes }
+        requires allowed { Steps → D.writable ≡ true }
         ensures world { result.world ≡ reopened J.before (D.state store.disk).now.bytes (held_of opened.value) opened.value.now }
         ensures opened { result.opened ≡ (D.state store.disk).now.bytes }
         ensures place { (result.place ≡ store.place) × (result.topology ≡ topology) }

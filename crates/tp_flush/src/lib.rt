@@ -17,6 +17,7 @@ mod pieces;
 mod places;
 mod progress;
 mod raising;
+mod rights;
 mod settle;
 mod settle_all;
 mod settle_host;

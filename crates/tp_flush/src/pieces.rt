@@ -10,6 +10,7 @@ ghost use Rattle.tp_flush.specs.Ends.{Tried, NothingStored};
 use crate::appending::answer_of;
 use crate::fault::FlushFault;
 use crate::flusher::Flusher;
+use crate::rights::may_step;
 use crate::telling::tell_where;
 use crate::whole::Whole;
 use std::sync::Wait;
@@ -32,6 +33,7 @@ impl<J: Naming, D: Disk> Flusher<J, D> {
         if parts.progress.cleared {
             return Ok(());
         }
+        may_step::<D>();
         let done = parts.store.clear_other();
         parts.progress.cleared = true;
         parts.whole = Whole::of(&*parts);
@@ -65,6 +67,7 @@ impl<J: Naming, D: Disk> Flusher<J, D> {
         self.known();
         let _node = node;
         let Flusher { parts, told } = self;
+        may_step::<D>();
         let done = parts.store.put_at(image + inner, bytes);
         parts.whole = Whole::of(&*parts);
         tell_where(rt, shared, parts.store.broken, &mut parts.key, told);

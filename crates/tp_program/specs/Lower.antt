@@ -26,7 +26,7 @@ pub use Rattle.tp_disk.specs.FileState.{begins}
 pub use Rattle.tp_disk.specs.History.{Medium}
 pub use Rattle.tp_disk.specs.Reads.{AreTrue, Reading, WereTrue}
 pub use Rattle.tp_area.specs.Formatting.{Formatted, IsOldOrNew}
-pub use Rattle.tp_area.specs.Rights.{Copies, Formats, Steps}
+pub use Rattle.tp_area.specs.Rights.{Copies, Formats}
 pub use Rattle.tp_recover.specs.Copies.{AskedLast, CopyAnswer, HasStayed, IsCopy, area_kept}
 pub use Rattle.tp_recover.specs.Reading.{LeavesNothingNew}
 pub use Rattle.tp_recover.specs.declared.asked.AreaAsked.{AreaAsked}
@@ -35,6 +35,7 @@ pub use Rattle.tp_recover.specs.declared.fault.CopyFault.TheVariants.{DeviceFail
 pub use Rattle.tp_recover.specs.declared.unopened.Unopened.{Unopened}
 pub use Rattle.tp_work.specs.declared.start.TheConstants.{MAX_WORKERS}
 pub use Rattle.tp_flush.specs.Known.{Began}
+pub use Rattle.tp_flush.specs.Rights.{Steps}
 pub use Rattle.tp_stream_files.specs.Any.{path_from}
 pub use Rattle.tp_stream_files.specs.Inputs.{GivenInput, given_input, named_input}
 pub use Rattle.tp_stream_files.specs.Named.{HaveOwnPaths, inputs_named, outputs_named}

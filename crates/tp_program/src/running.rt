@@ -77,7 +77,7 @@ fn report<E: Write>(err: &mut E, done: Result<u64, RunFault>, rest: Rest) -> u8
 /// confirms what the port shows. On standard error it says which number the next entry gets, and whether each node has halted, or nothing is left to
 /// do. Answers the device, and the program's status: 0 if that was done, 2 if `--spare` is above a node's pages or the port doesn't exist, else 1.
 /// After status 2, or if a device doesn't open, it is as it was, and nothing is printed.
-pub fn run_on<D: Disk + Drop + Send, O: Outlet, E: Write, R: Threads + Wait + Sync>(
+pub fn run_on<D: Disk + Drop + Send, O: Outlet<D>, E: Write, R: Threads + Wait + Sync>(
     rt: &R,
     alloc: Global,
     asked: &Run,

@@ -66,7 +66,7 @@ pub use Rattle.tp_area.specs.Heads.{head_in, version_in}
 pub use Rattle.tp_area.specs.Lines.{tokens_on}
 pub use Rattle.tp_area.specs.Places.{place_at}
 pub use Rattle.tp_area.specs.Ports.{port_said as record_of}
-pub use Rattle.tp_area.specs.Rights.{Copies, Steps}
+pub use Rattle.tp_area.specs.Rights.{Copies}
 pub use Rattle.tp_area.specs.Tails.{tail_refusal}
 pub use Rattle.tp_area.specs.declared.front.CutFront.{CutFront}
 pub use Rattle.tp_area.specs.declared.front.TheConstants.{AREA_FRONT_BYTES}

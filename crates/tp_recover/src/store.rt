@@ -1,7 +1,7 @@
 //! The store over a device that opened.
 
 ghost use Rattle.std.specs.Prelude.{◌≡◌, ◌+◌, ◌*◌, ◌^◌, ◌<◌, ◌≤◌, true, false, Ok, Err, IfOk};
-ghost use Rattle.tp_recover.specs.Lower.{AreTrue, WereTrue, Steps, place_at, area_start, areas_end, Sync, done, Counts, verdict, AREA_HEAD_BYTES};
+ghost use Rattle.tp_recover.specs.Lower.{AreTrue, WereTrue, place_at, area_start, areas_end, Sync, done, Counts, verdict, AREA_HEAD_BYTES};
 ghost use Rattle.tp_recover.specs.Reading.{ReadAnswer, LeavesNothingNew};
 ghost use Rattle.tp_recover.specs.declared.unopened.Unopened.TheVariants.{ReadFailed};
 
@@ -33,7 +33,6 @@ impl Opened {
         requires whole { areas_end self.now.head.areas ≤ D.size_of disk }
         requires counted { D.size_of disk < 2 ^ 64 }
         requires read { AreTrue (D.reads disk) → verdict (D.state disk).now.bytes ≡ Ok self.now }
-        requires allowed { Steps → D.writable ≡ true }
         ensures disk { result.disk ≡ disk }
         ensures place { result.place ≡ place_at self.now }
         ensures unbroken { result.broken ≡ false }
@@ -51,7 +50,6 @@ pub fn open_store<D: Disk + Drop>(
     alloc: Global,
     mut disk: D,
 ) -> Result<(Opened, Store<D>), Unopened>
-    requires { Steps → D.writable ≡ true }
     ensures counts { IfOk result (λ both. Counts true (D.size_of disk) (D.size_of both.1.disk) (D.failures_of disk) (D.failures_of both.1.disk)) }
     ensures failed { result ≡ Err ReadFailed → (after : D) × Counts false (D.size_of disk) (D.size_of after) (D.failures_of disk) (D.failures_of after) }
     ensures premise { IfOk result (λ both. WereTrue (D.reads disk) (D.reads both.1.disk)) }

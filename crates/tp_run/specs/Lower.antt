@@ -36,7 +36,6 @@ pub use Rattle.tp_book.specs.declared.refusal.Refusal.{Refusal}
 pub use Rattle.tp_disk.specs.Reads.{AreTrue, WereTrue}
 pub use Rattle.tp_area.specs.Capacity.{half_capacity, journal_of}
 pub use Rattle.tp_area.specs.Places.{place_at}
-pub use Rattle.tp_area.specs.Rights.{Steps}
 pub use Rattle.tp_recover.specs.EntriesLeft.{entries_left}
 pub use Rattle.tp_recover.specs.Reading.{LeavesNothingNew, ReadAnswer}
 pub use Rattle.tp_recover.specs.declared.unopened.Unopened.{Unopened}
@@ -58,5 +57,6 @@ pub use Rattle.tp_flush.specs.Flushing.{Flushing, IsSameProcess, Walked, positio
 pub use Rattle.tp_flush.specs.Follows.{Follows}
 pub use Rattle.tp_flush.specs.Known.{Began}
 pub use Rattle.tp_flush.specs.Made.{IsMadeOf}
+pub use Rattle.tp_flush.specs.Rights.{Steps}
 pub use Rattle.tp_flush.specs.Settled.{HasFront, SlipsStand}
 pub use Rattle.tp_flush.specs.declared.fault.FlushFault.{FlushFault}

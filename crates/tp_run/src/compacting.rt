@@ -231,6 +231,7 @@ fn compact_parts<J: Naming, D: Disk, R: Wait>(
     requires topology { topology ≡ opened.value.head.topology }
     requires roomy { is_roomy opened.value.head.topology opened.value.head.areas.length ≡ true }
     requires unbroken { store.broken ≡ false }
+    requires allowed { Steps → D.writable ≡ true }
     requires read { AreTrue (D.reads store.disk) → verdict (D.state store.disk).now.bytes ≡ Ok opened.value }
     requires synced { AreTrue (D.reads store.disk) → IsSynced (D.state store.disk) }
     ensures size { D.size_of result.0 ≡ D.size_of store.disk }

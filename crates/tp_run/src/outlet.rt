@@ -20,14 +20,14 @@ pub enum OutletFault {
     Failed,
 }
 
-/// What a run prints to. Each call is lent the flusher, so that contracts can speak of the device's state at that call.
-pub trait Outlet {
+/// What a run over a device of the type `D` prints to. Each call is lent the flusher, so that contracts can speak of the device's state at that call.
+pub trait Outlet<D: Disk> {
     /// The bytes that the outlet has taken, and the calls that it got. `None` says that nothing is known.
     ghost value: { Self → OutletValue };
 
     /// Takes some of these bytes, from the first one on, and answers how many; or takes none, and says why. The caller proves that no crash takes them
     /// back.
-    fn print<J: Naming, D: Disk>(
+    fn print<J: Naming>(
         &mut self,
         flusher: &Flusher<J, D>,
         bytes: &[u8],
@@ -51,10 +51,10 @@ fn fault_of(error: &io::Error) -> OutletFault
 }
 
 /// Each writer is an outlet. It notes no calls.
-impl<O: Write> Outlet for O {
+impl<O: Write, D: Disk> Outlet<D> for O {
     ghost value = { λ out. unnoted (O.contents out) };
 
-    fn print<J: Naming, D: Disk>(
+    fn print<J: Naming>(
         &mut self,
         _flusher: &Flusher<J, D>,
         bytes: &[u8],

@@ -18,7 +18,7 @@ use tp_shared::{HostKey, Locked, Naming, Seat};
 use tp_work::{ConfirmFault, confirm};
 
 /// Calls an outlet with bytes until it has taken all of them or failed. Answers how many of them it took. An interrupted call is made again.
-fn write_front<J: Naming, D: Disk, O: Outlet>(
+fn write_front<J: Naming, D: Disk, O: Outlet<D>>(
     flusher: &Flusher<J, D>,
     out: &mut O,
     bytes: &[u8],
@@ -43,7 +43,7 @@ fn write_front<J: Naming, D: Disk, O: Outlet>(
 }
 
 /// Prints `bytes`. Fails with `OutputFailed` if the outlet failed; then it has taken only some of the first bytes, or none.
-fn put<J: Naming, D: Disk, O: Outlet>(
+fn put<J: Naming, D: Disk, O: Outlet<D>>(
     flusher: &Flusher<J, D>,
     out: &mut O,
     bytes: &[u8],
@@ -92,7 +92,7 @@ fn confirm_shown<J: Naming>(
 /// Prints, under the book's lock, the outputs of a port that `mark` shows and that aren't confirmed, and confirms them. The receipt has the number of
 /// the next entry. `seat` gets the slip, and `key` shows the entry. If the output can't be written, it fails with `OutputFailed` and confirms nothing.
 /// Else it fails as `confirm_shown` does.
-fn print_shown<J: Naming, D: Disk, O: Outlet>(
+fn print_shown<J: Naming, D: Disk, O: Outlet<D>>(
     held: &mut Locked<J>,
     seat: &mut Seat<J>,
     key: &mut HostKey<J>,
@@ -133,7 +133,7 @@ fn is_all_shown(book: &Book, port: u8, mark: u64) -> Result<(), RunFault>
 /// Prints and confirms all outputs, as `print_shown` does. Before that it tests that the port has confirmed what it had at the opening, and that
 /// `mark` shows all outputs and is above all entries. If a test fails, it prints nothing and fails with `Unaccounted`; that doesn't occur after a
 /// flush with no other thread there.
-pub(crate) fn print_from<J: Naming, D: Disk, O: Outlet>(
+pub(crate) fn print_from<J: Naming, D: Disk, O: Outlet<D>>(
     held: &mut Locked<J>,
     seat: &mut Seat<J>,
     key: &mut HostKey<J>,

@@ -42,7 +42,7 @@ fn let_go<J: Naming>(_net: Net<J, NoGate>) {}
 /// Serves a network as `serve` does, says what is left to do in it, and drops it. `key` was lent to nothing else, so the journal has nothing from the
 /// host but what `serve` handed in. It is a function of its own so that the network isn't on the stack together with the parts that it was made of.
 #[inline(never)]
-fn use_up<J: Naming + Send + Sync, D: Disk + Send + Drop, O: Outlet, R: Threads + Wait + Sync>(
+fn use_up<J: Naming + Send + Sync, D: Disk + Send + Drop, O: Outlet<D>, R: Threads + Wait + Sync>(
     rt: &R,
     alloc: Global,
     job: Job,
@@ -96,7 +96,12 @@ fn use_up<J: Naming + Send + Sync, D: Disk + Send + Drop, O: Outlet, R: Threads 
 /// Runs the network of an opened device, from the parts that were made of it. Fails with `Memory` if the threads' seats find no room; else as `serve`
 /// fails.
 #[inline(never)]
-fn run_parts<J: Naming + Send + Sync, D: Disk + Send + Drop, O: Outlet, R: Threads + Wait + Sync>(
+fn run_parts<
+    J: Naming + Send + Sync,
+    D: Disk + Send + Drop,
+    O: Outlet<D>,
+    R: Threads + Wait + Sync,
+>(
     rt: &R,
     alloc: Global,
     job: Job,
@@ -123,6 +128,7 @@ fn run_parts<J: Naming + Send + Sync, D: Disk + Send + Drop, O: Outlet, R: Threa
     requires network { J.start ≡ opened.value.cut }
     requires roomy { is_roomy opened.value.head.topology opened.value.head.areas.length ≡ true }
     requires unbroken { store.broken ≡ false }
+    requires allowed { Steps → D.writable ≡ true }
     requires read { AreTrue (D.reads store.disk) → verdict (D.state store.disk).now.bytes ≡ Ok opened.value }
     requires synced { AreTrue (D.reads store.disk) → IsSynced (D.state store.disk) }
     ensures size { D.size_of result.0 ≡ D.size_of store.disk }
@@ -180,7 +186,7 @@ fn run_parts<J: Naming + Send + Sync, D: Disk + Send + Drop, O: Outlet, R: Threa
 /// A fault tells its reason: that the device isn't opened, what is wrong with the job, or what failed later. It says that a call of the device failed
 /// exactly if one did.
 #[inline(never)]
-pub fn run<D: Disk + Send + Drop, O: Outlet, R: Threads + Wait + Sync>(
+pub fn run<D: Disk + Send + Drop, O: Outlet<D>, R: Threads + Wait + Sync>(
     rt: &R,
     alloc: Global,
     job: Job,

@@ -58,7 +58,7 @@ fn offer<J: Naming, R: Wait>(
 
 /// Prints and confirms, under the book's lock, what `mark` shows, which the flusher raised. What it prints are outputs of the port in a network to
 /// which the flusher's journal leads. `seat` gets the slip, and `key` shows the entry. Fails as `print_from` does.
-fn print_settled<J: Naming, D: Disk, O: Outlet>(
+fn print_settled<J: Naming, D: Disk, O: Outlet<D>>(
     held: &mut Locked<J>,
     seat: &mut tp_shared::Seat<J>,
     key: &mut HostKey<J>,
@@ -83,7 +83,7 @@ fn print_settled<J: Naming, D: Disk, O: Outlet>(
 }
 
 /// Takes the book's lock, and prints and confirms as `print_settled` does. `seat` gets the slip, and `key` shows the entry.
-fn print<J: Naming, D: Disk, O: Outlet, R: Wait>(
+fn print<J: Naming, D: Disk, O: Outlet<D>, R: Wait>(
     rt: &R,
     shared: &Shared<J>,
     seat: &mut tp_shared::Seat<J>,
@@ -187,7 +187,7 @@ fn settle<J: Naming, D: Disk, R: Wait>(
 /// ends, what was printed are outputs of the port in a network to which the journal leads. `key` shows the entry that confirms the output, unless it
 /// ends before that was made. `rest` becomes what is left to do in the network, exactly.
 #[inline(never)]
-fn finish<J: Naming, D: Disk, O: Outlet, R: Wait>(
+fn finish<J: Naming, D: Disk, O: Outlet<D>, R: Wait>(
     rt: &R,
     alloc: Global,
     shared: &Shared<J>,
@@ -249,7 +249,7 @@ fn finish<J: Naming, D: Disk, O: Outlet, R: Wait>(
 pub(crate) fn serve<
     J: Naming + Send + Sync,
     D: Disk + Send + Drop,
-    O: Outlet,
+    O: Outlet<D>,
     R: Threads + Wait + Sync,
 >(
     rt: &R,

@@ -41,7 +41,6 @@ pub use Rattle.tp_turn.specs.declared.take.TheConstants.{TAKES, TURN_ENTRIES}
 pub use Rattle.tp_disk.specs.Reads.{AreTrue, WereTrue}
 pub use Rattle.tp_area.specs.Capacity.{capacity, half_capacity, journal_of, left_behind, takes}
 pub use Rattle.tp_area.specs.Places.{place_at}
-pub use Rattle.tp_area.specs.Rights.{Steps}
 pub use Rattle.tp_area.specs.declared.journal.JournalRoom.{JournalRoom}
 pub use Rattle.tp_recover.specs.Reading.{LeavesNothingNew, ReadAnswer}
 pub use Rattle.tp_recover.specs.declared.unopened.Unopened.{Unopened}
@@ -69,6 +68,7 @@ pub use Rattle.tp_flush.specs.Follows.{Follows}
 pub use Rattle.tp_flush.specs.History.{History}
 pub use Rattle.tp_flush.specs.Known.{Began}
 pub use Rattle.tp_flush.specs.Made.{IsMadeOf}
+pub use Rattle.tp_flush.specs.Rights.{Steps}
 pub use Rattle.tp_flush.specs.declared.fault.FlushFault.{FlushFault}
 pub use Rattle.tp_stream_files.specs.Held.{HasAtMost, HasLength, HasPut, HasReach, KeepsFront, Reaches}
 pub use Rattle.tp_stream_files.specs.Inputs.{AreFrom, GivenInput, HasAtLeast, IsLength, given_input, is_over}

@@ -113,6 +113,7 @@ fn stream_parts<
     requires topology { device.topology ≡ device.opened.value.head.topology }
     requires roomy { is_roomy device.opened.value.head.topology device.opened.value.head.areas.length ≡ true }
     requires unbroken { device.store.broken ≡ false }
+    requires allowed { Steps → D.writable ≡ true }
     requires read { AreTrue (D.reads device.store.disk) → verdict (D.state device.store.disk).now.bytes ≡ Ok device.opened.value }
     requires synced { AreTrue (D.reads device.store.disk) → IsSynced (D.state device.store.disk) }
     ensures size { D.size_of result.0 ≡ D.size_of device.store.disk }

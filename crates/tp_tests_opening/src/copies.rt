@@ -121,6 +121,7 @@ fn put_image<D: Disk>(
     image: &[u8],
 ) -> Result<(), StoreFault>
     requires closed { AreTrue (D.reads store.old.disk) → OtherIsClosed store.old.place (D.state store.old.disk) }
+    requires allowed { D.writable ≡ true }
     ensures closed { AreTrue (D.reads store.new.disk) → OnOk result (OtherIsClosed store.new.place (D.state store.new.disk)) }
 {
     if topology.pages().is_empty() || image.len() != IMAGE_HEAD_BYTES + PAGES * PAGE_BYTES {
@@ -145,6 +146,7 @@ fn put_rest<D: Disk>(
     tail: &[Numbered],
 ) -> Result<(), StoreFault>
     requires closed { AreTrue (D.reads store.old.disk) → OtherIsClosed store.old.place (D.state store.old.disk) }
+    requires allowed { D.writable ≡ true }
     ensures filled { OnOk result (is_some store.new.filled ≡ true) }
 {
     let ports = held.net.ports.as_slice();
@@ -168,7 +170,9 @@ fn switch<D: Disk>(
     held: &Held,
     lines: &Lines,
     tail: &[Numbered],
-) -> Result<(), StoreFault> {
+) -> Result<(), StoreFault>
+    requires { D.writable ≡ true }
+{
     store.clear_other()?;
     let Some(image) = held.net.images.first() else {
         return Err(StoreFault::AreaFull);

@@ -190,10 +190,10 @@ impl Slow {
     }
 }
 
-impl Outlet for Slow {
+impl<D: Disk> Outlet<D> for Slow {
     ghost value = { λ _. unnoted None };
 
-    fn print<J: Naming, D: Disk>(
+    fn print<J: Naming>(
         &mut self,
         _flusher: &Flusher<J, D>,
         bytes: &[u8],

@@ -31,7 +31,7 @@ pub(crate) fn letter(alloc: Global) -> Result<MemDisk, Fail> {
 }
 
 // A run, if as many workers and steps are asked for as may be.
-fn run_within<D: Disk + Send + Drop, R: Threads + Wait + Sync, O: Outlet>(
+fn run_within<D: Disk + Send + Drop, R: Threads + Wait + Sync, O: Outlet<D>>(
     rt: &R,
     alloc: Global,
     job: Job,
@@ -48,7 +48,7 @@ fn run_within<D: Disk + Send + Drop, R: Threads + Wait + Sync, O: Outlet>(
 }
 
 /// A run.
-pub(crate) fn run_on<R: Threads + Wait + Abort + Sync, O: Outlet>(
+pub(crate) fn run_on<R: Threads + Wait + Abort + Sync, O: Outlet<MemDisk>>(
     rt: &R,
     alloc: Global,
     job: Job,

@@ -10,7 +10,7 @@ pub use Rattle.tp_model.specs.declared.limits.TheConstants.{MAX_STEPS}
 pub use Rattle.tp_law_machine.specs.NodeOfBytes.{IsNodeOfBytes}
 pub use Rattle.tp_disk.specs.Reads.{AreTrue}
 pub use Rattle.tp_area.specs.Places.{place_at}
-pub use Rattle.tp_area.specs.Rights.{Steps}
 pub use Rattle.tp_shared.specs.Named.{Names}
 pub use Rattle.tp_work.specs.declared.start.TheConstants.{MAX_SEATS}
 pub use Rattle.tp_flush.specs.Made.{IsMadeOf}
+pub use Rattle.tp_flush.specs.Rights.{Steps}

@@ -42,6 +42,7 @@ pub struct Opening<D: Disk> {
     pub ghost unbroken: { store.broken ≡ false },
     pub ghost read: { AreTrue (D.reads store.disk) → verdict (D.state store.disk).now.bytes ≡ Ok opened.value },
     pub ghost synced: { AreTrue (D.reads store.disk) → IsSynced (D.state store.disk) },
+    pub ghost allowed: { Steps → D.writable ≡ true },
 }
 
 impl<D: Disk + Drop> Opening<D> {

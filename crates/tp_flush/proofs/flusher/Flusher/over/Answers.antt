@@ -12,8 +12,8 @@ use Rattle.tp_flush.proofs.Forms.{holds_same}
 use Rattle.tp_flush.proofs.Breaking.{where_whole}
 use Rattle.tp_flush.proofs.flusher.Flusher.over.Goals as goal
 
-pub invariant_of-result : goal.invariant_of-result
-invariant_of-result g c =
+pub invariant_of-result-2 : goal.invariant_of-result-2
+invariant_of-result-2 g c =
     let s = g.D.Disk.state c.args.store.disk in
     let key = c.args.key.value in
     let place = c.args.store.place in

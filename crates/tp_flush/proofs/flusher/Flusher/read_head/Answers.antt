@@ -33,7 +33,7 @@ invariant_of-self g c =
       subst (λ (k : Known). AreGone k.world.net now.frozen p.progress) (sym c.of-parts.ensures) (gone_told p.whole.known.world p.key.value now p.progress c.self.invariant.2 c.frozen_head-found.ensures.since c.self.invariant.10),
     )
 
-abbrev flushing : (g : given.Over) (c : goal.After-parts-2-1 g) → Known → Told → Flushing
+abbrev flushing : (g : given.Over) (c : goal.After-parts-3-1 g) → Known → Told → Flushing
 flushing g c k told =
     let p = c.self.inside.parts in
     record {
@@ -49,7 +49,7 @@ flushing g c k told =
       frozen = told.frozen;
     }
 
-looked : (g : given.Over) (c : goal.After-parts-2-1 g) → OnlyLooked c.args.self.now (flushing g c c.of-parts.result.known c.frozen_head-found.new.key.value)
+looked : (g : given.Over) (c : goal.After-parts-3-1 g) → OnlyLooked c.args.self.now (flushing g c c.of-parts.result.known c.frozen_head-found.new.key.value)
 looked g c =
     let p = c.self.inside.parts in
     subst (λ (v : Flushing). OnlyLooked v (flushing g c c.of-parts.result.known c.frozen_head-found.new.key.value)) c.self.view_is

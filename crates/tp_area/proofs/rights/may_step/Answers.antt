@@ -1,6 +1,0 @@
-use Rattle.tp_area.specs.declared.rights.Stepper.TheVariants.{By}
-use Rattle.tp_area.specs.declared.rights.Secret.TheVariants.{Number}
-use Rattle.tp_area.proofs.rights.may_step.Goals as goal
-
-pub returns : goal.returns
-returns g c = c.requires (record { by = By (Number 0) })
