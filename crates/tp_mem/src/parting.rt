@@ -1,7 +1,7 @@
 //! Parting shared pages from their frozen copies, before they are written.
 
 ghost use Rattle.std.specs.Prelude.{◌≡◌, ◌+◌, ◌-◌, ◌*◌, ◌/◌, ◌<◌, ◌≤◌, ◌^◌, [], ◌∷◌, ◌&&◌, not, if◌then◌else◌, true, false, length, get_or, set, ◌↔◌, IfOk, OnOk, OnErr, IsOk, IsSome};
-ghost use Rattle.tp_mem.specs.Lower.{list_any, block_ranges, word_ranges, touches, shared_from, private_in, wanted_from};
+ghost use Rattle.tp_mem.specs.Lower.{list_any, word_offset, block_ranges, word_ranges, touches, shared_from, private_in, wanted_from};
 
 use crate::copy_table::page_at;
 use crate::cow::CowMemory;
@@ -103,7 +103,29 @@ impl CowMemory {
         }
     }
 
-    /// Parts the shared pages that the ranges have bytes in. If none of their pages is shared, it tests no others.
+    /// Parts the shared pages that the ranges have bytes in. If none of their pages is shared, it tests no others. It is called only if
+    /// memory is frozen, and never inlined.
+    #[inline(never)]
+    fn separate_frozen(
+        &mut self,
+        first: Range,
+        block: Range,
+        words: &[(u32, u32)],
+    ) -> Result<(), NoFrame>
+        requires frozen { IsSome self.old.frozen }
+        requires first { first.0 + first.1 < 2 ^ 33 }
+        requires block { block.0 + block.1 < 2 ^ 33 }
+        ensures ok { IfOk result (λ _. self.new ≡ record self.old { shared = shared_from 0 self.old.shared (first ∷ block ∷ word_ranges words.now) }) }
+        ensures fits { OnOk result (wanted_from 0 self.old.shared (first ∷ block ∷ word_ranges words.now) ≤ self.old.spare - private_in self.old.shared) }
+        ensures err { OnErr result ((self.new ≡ self.old) × (self.old.spare - private_in self.old.shared < wanted_from 0 self.old.shared (first ∷ block ∷ word_ranges words.now))) }
+    {
+        if !shares(&self.shared, first, block, words) {
+            return Ok(());
+        }
+        self.separate_shared(first, block, words)
+    }
+
+    /// Parts the shared pages that the ranges have bytes in. If memory isn't frozen, it makes no call.
     #[inline(always)]
     pub(crate) fn separate(
         &mut self,
@@ -120,23 +142,35 @@ impl CowMemory {
         if !self.is_frozen {
             return Ok(());
         }
-        if !shares(&self.shared, first, block, words) {
-            return Ok(());
-        }
-        self.separate_shared(first, block, words)
+        self.separate_frozen(first, block, words)
     }
 
-    /// Parts the shared pages that `words` have bytes in. It is called only if memory is frozen, and never inlined, so that whatever writes
-    /// words stays short.
+    /// Parts the shared pages that the words of two addresses are in.
     #[inline(never)]
-    fn separate_frozen_words(&mut self, words: &[(u32, u32)]) -> Result<(), NoFrame>
-        ensures ok { IfOk result (λ _. self.new ≡ record self.old { shared = shared_from 0 self.old.shared ((0, 0) ∷ (0, 0) ∷ word_ranges words.now) }) }
-        ensures err { OnErr result ((self.new ≡ self.old) × IsSome self.old.frozen × (self.old.spare - private_in self.old.shared < wanted_from 0 self.old.shared ((0, 0) ∷ (0, 0) ∷ word_ranges words.now))) }
+    fn separate_two(&mut self, one: u32, two: u32) -> Result<(), NoFrame>
+        requires frozen { IsSome self.old.frozen }
+        ensures ok { IfOk result (λ _. self.new ≡ record self.old { shared = shared_from 0 self.old.shared ((0, 0) ∷ (0, 0) ∷ (word_offset one, 4) ∷ (word_offset two, 4) ∷ []) }) }
+        ensures err { OnErr result ((self.new ≡ self.old) × (self.old.spare - private_in self.old.shared < wanted_from 0 self.old.shared ((0, 0) ∷ (0, 0) ∷ (word_offset one, 4) ∷ (word_offset two, 4) ∷ []))) }
     {
-        self.separate(NOWHERE, NOWHERE, words)
+        self.separate_frozen(NOWHERE, NOWHERE, &[(one, 0), (two, 0)])
     }
 
-    /// Parts the shared pages that `words` have bytes in. If memory isn't frozen, it makes no call.
+    /// Parts the shared pages that the words of four addresses are in.
+    #[inline(never)]
+    fn separate_four(&mut self, one: u32, two: u32, three: u32, four: u32) -> Result<(), NoFrame>
+        requires frozen { IsSome self.old.frozen }
+        ensures ok { IfOk result (λ _. self.new ≡ record self.old { shared = shared_from 0 self.old.shared ((0, 0) ∷ (0, 0) ∷ (word_offset one, 4) ∷ (word_offset two, 4) ∷ (word_offset three, 4) ∷ (word_offset four, 4) ∷ []) }) }
+        ensures err { OnErr result ((self.new ≡ self.old) × (self.old.spare - private_in self.old.shared < wanted_from 0 self.old.shared ((0, 0) ∷ (0, 0) ∷ (word_offset one, 4) ∷ (word_offset two, 4) ∷ (word_offset three, 4) ∷ (word_offset four, 4) ∷ []))) }
+    {
+        self.separate_frozen(
+            NOWHERE,
+            NOWHERE,
+            &[(one, 0), (two, 0), (three, 0), (four, 0)],
+        )
+    }
+
+    /// Parts the shared pages that `words` have bytes in. If memory isn't frozen, it makes no call. The addresses of two words and of four,
+    /// which the interpreter's loop writes, are handed on by themselves, so that there no table of them is made.
     #[inline(always)]
     pub(crate) fn separate_words(&mut self, words: &[(u32, u32)]) -> Result<(), NoFrame>
         ensures ok { IfOk result (λ _. self.new ≡ record self.old { shared = shared_from 0 self.old.shared ((0, 0) ∷ (0, 0) ∷ word_ranges words.now) }) }
@@ -145,7 +179,23 @@ impl CowMemory {
         if !self.is_frozen {
             return Ok(());
         }
-        self.separate_frozen_words(words)
+        match words {
+            [one, two] => self.separate_two(one.0, two.0),
+            [one, two, three, four] => self.separate_four(one.0, two.0, three.0, four.0),
+            _ => self.separate_frozen(NOWHERE, NOWHERE, words),
+        }
+    }
+
+    /// Parts the page of the `count` bytes at `at`, which are in one page, as `separate_shared` does.
+    #[inline(never)]
+    fn separate_shared_at(&mut self, at: usize, count: usize) -> Result<(), NoFrame>
+        requires frozen { IsSome self.old.frozen }
+        requires small { at < 2 ^ 32 }
+        requires inside { at + count ≤ PAGE_BYTES * (at / PAGE_BYTES) + PAGE_BYTES }
+        ensures ok { IfOk result (λ _. self.new ≡ record self.old { shared = shared_from 0 self.old.shared ((at, count) ∷ (0, 0) ∷ []) }) }
+        ensures err { OnErr result ((self.new ≡ self.old) × (self.old.spare - private_in self.old.shared < wanted_from 0 self.old.shared ((at, count) ∷ (0, 0) ∷ []))) }
+    {
+        self.separate_shared((at, count), NOWHERE, &[])
     }
 
     /// Parts the page of the `count` bytes at `at`, which are in one page, if it is shared. It tests one flag.
@@ -162,7 +212,7 @@ impl CowMemory {
         if !is_shared(&self.shared, at / PAGE_BYTES) {
             return Ok(());
         }
-        self.separate_shared((at, count), NOWHERE, &[])
+        self.separate_shared_at(at, count)
     }
 
     /// Makes the pages of a range private, so that the frozen bytes share none of them. `NoFrame`, and nothing changes, if the shared ones
