@@ -103,9 +103,8 @@ impl CowMemory {
         }
     }
 
-    /// Parts the shared pages that the ranges have bytes in. If none of their pages is shared, it tests no others. It is called only if
-    /// memory is frozen, and never inlined.
-    #[inline(never)]
+    /// Parts the shared pages that the ranges have bytes in. If none of their pages is shared, it tests no others.
+    #[inline(always)]
     fn separate_frozen(
         &mut self,
         first: Range,
