@@ -329,10 +329,14 @@ tpnet backup device c\nd --explain
 # Other characters are shown as they are.
 tpnet show gr\xC3\xB6\xC3\x9Fe --explain
 # So it is where the words ask for nothing.
-tpnet fl\ny 2>err
+tpnet fl\ny device 2>err
 starts err error: unrecognized subcommand 'fl\x5Cx0Ay'\n
 tpnet show device --js\x1Bon 2>err
 starts err error: unexpected argument '--js\x5Cx1Bon' found\n
+tpnet show device --js\x7Fon 2>err
+starts err error: unexpected argument '--js\x5Cx7Fon' found\n
+tpnet show device --js\xC2\x9Bon\xC3\xB6 2>err
+starts err error: unexpected argument '--js\x5Cx9Bon\xC3\xB6' found\n
 tpnet show device a\nb 2>err
 starts err error: unexpected argument 'a\x5Cx0Ab' found\n
 tpnet run device --stream --discard 0 a\nb 2>err

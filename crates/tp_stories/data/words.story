@@ -108,6 +108,26 @@ has out --quantum <Q>
 tpnet --version >out
 has out tpnet 0.1.0\nmade for Rattle's logic dac8208d650f15bf\nproved if rt run or rt ci built it\n
 
+story help_of_each
+# Of each command what it does, its words, and what it refuses.
+tpnet try --help
+tpnet trace --help
+tpnet check --help
+tpnet format --help
+tpnet run --help
+tpnet run --stream --help
+tpnet stop --help
+tpnet compact --help
+tpnet backup --help
+tpnet recover --help
+tpnet show --help
+tpnet status --help
+tpnet waits --help
+tpnet node --help
+tpnet image --help
+tpnet journal --help
+tpnet port --help
+
 story with_stream
 # Options that go with --stream alone, a number that is none, and a device that is no regular file, run and looked at: it isn't opened.
 text net.txt node a 4\nport h\nwire a.0 h\n
