@@ -13,10 +13,11 @@ tpnet run device --stream --quantum=64 --until-quiet --out bytes
 tpnet run device --stream --quantum=64 --until-quiet --in 8=-
 tpnet run device --stream --quantum=64 --until-quiet --have 0=+1
 tpnet run device --stream --quantum=64 --until-quiet --discard x
-tpnet run device --stream --quantum=64 --until-quiet --out 0=- --discard 0
+tpnet run device --stream --quantum=64 --until-quiet --out 3=- --discard 3
 tpnet run device --stream --quantum=64 --until-quiet --in 1=- --in 1=in
 tpnet run device --stream --quantum=64 --until-quiet --out 0=- --out 1=-
-tpnet run device --stream --quantum=64 --until-quiet --discard 0 --have 0=1
+tpnet run device --stream --quantum=64 --until-quiet --discard 0 --in 6=- --in 2=-
+tpnet run device --stream --quantum=64 --until-quiet --discard 0 --have 7=1
 tpnet run device --stream --quantum=64 --until-quiet --out 0=device
 tpnet run device --stream --quantum=64 --until-quiet --out 0=- --in 0=nowhere
 tpnet run device --stream --quantum=64 --until-quiet --out 0=nowhere/out

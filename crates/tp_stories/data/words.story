@@ -128,6 +128,27 @@ tpnet image --help
 tpnet journal --help
 tpnet port --help
 
+story said_of_a_line
+# What is said of a line that no command takes: a word is missing, is there twice, or is there beside one that it doesn't go with.
+tpnet
+tpnet show
+tpnet run device
+tpnet show device --json --json
+tpnet run device --turns 4 --turns 5
+tpnet run device --turns 4 --in
+tpnet try a.img --turns 4 --steps 5
+tpnet try a.img --turns 4 --bytes 5
+tpnet format device net.txt . 16K --area 16K
+tpnet trace device 1 --steps 4
+tpnet waits device --json --dot
+tpnet port device 0 --outputs --pending
+tpnet try a.img --in 0=x --in 1=y --fly
+tpnet run device --stream --discard 0 --discard 1 --fly
+# What clap doesn't say: these options don't go with the other form of a trace.
+tpnet trace device 1 --in 0=x
+tpnet trace a.img --from 4
+tpnet trace a.img --bytes 4
+
 story with_stream
 # Options that go with --stream alone, a number that is none, and a device that is no regular file, run and looked at: it isn't opened.
 text net.txt node a 4\nport h\nwire a.0 h\n
