@@ -610,6 +610,19 @@ ends err  written 0 confirmed 0 gone\n
 shut
 tpnet run device --stream --quantum=64 --until-quiet --out 0=- 2>err
 
+story gone_beside_a_waiting_node
+# Whoever takes the output goes while its node still sends. The other node waits beside input that nobody has taken, but it isn't told: it might
+# have gone on.
+text net.txt node b 4\nnode a 4\nport g\nport h\nwire b.0 g\nwire a.0 h\n
+image b.img 11 24 F2 55 41 F7
+image a.img 27 2F 2F 2F 2F 2F 6F 40 24 41 FE 60 02
+tpnet format device net.txt . --area 1M
+text given ab
+shut gone
+tpnet run device --stream --discard 0 --in 0=given --out 1=-
+shut
+tpnet show device
+
 story synced
 # A node sends the letter A once. What a stream syncs beside its device: a file that takes an output as it is opened, and its folder where it is
 # empty; and it once more behind the piece that is put. What goes to standard output, or is let go, is synced nowhere, nor is an input.
