@@ -200,6 +200,18 @@ tpnet run device --stream --quantum=64 --turns 9 --discard 0
 tpnet run device --stream --quantum=64 --discard 0
 tpnet run device --stream --quantum=64 --discard 0 --stop-on-halt --until-quiet
 
+story stopped_each
+# Of four nodes the second and the last halt, and the others wait while input is pending: each is told by its own number, in order.
+text net.txt node a 4\nnode b 4\nnode c 4\nnode d 4\nport h\nport g\nwire a.0 h\nwire c.0 g\n
+image a.img 11 24 F2 54 41 F7 11 24 F2 41 FB 60 03
+image b.img 40 30
+image c.img 11 24 F2 57 41 F7
+image d.img 40 40 2F FF
+tpnet format device net.txt . 65536
+text given ab
+tpnet run device --stream --until-quiet --discard 0 --discard 1 --in 1=given
+tpnet run device --stream --stop-on-halt --discard 0 --discard 1
+
 story pages
 # A node of 16 pages writes a word into each of twelve of them, a thousand times, then sends the letter A and stops. It writes more
 # pages than it has spare frames, and isn't quiet while a snapshot holds it back: its byte comes.
