@@ -84,7 +84,8 @@ pub(crate) fn read_source<R: Files, S: Devices>(
 
 /// The path of a node's image.
 pub(crate) fn image_path(alloc: Global, folder: &str, name: &str) -> Result<String, Refusal>
-    ensures { IfOk result (λ path. string_bytes path ≡ image_of folder.now name.now) }
+    ensures path { IfOk result (λ path. string_bytes path ≡ image_of folder.now name.now) }
+    ensures memory { IfErr result (λ refusal. refusal ≡ Refusal.Memory) }
 {
     match format!(in alloc; "{folder}/{name}.img") {
         Ok(path) => Ok(path),
@@ -396,10 +397,12 @@ pub fn show_file<R: AllocGlobal, S: Devices<Device = D>, D: Disk + Drop, O: Writ
     status
 }
 
-/// The time that a look prints: none if it is the only one.
-fn clock_of<W: Watch>(watch: &mut W, every: Option<u32>) -> Option<u64> {
+/// The time that a look prints, in seconds since 1970: none if it is the only one.
+fn clock_of<W: Watch>(watch: &mut W, every: Option<u32>) -> Option<u64>
+    ensures { every ≡ None → result ≡ None }
+{
     match every {
-        Some(_) => watch.clock(),
+        Some(_) => Some(watch.clock()?.as_secs()),
         None => None,
     }
 }

@@ -97,9 +97,11 @@ remove copy.part
 tpnet backup device copy
 # The device is the file in which its copy would be made.
 copy device new.part
+link new.part also
 keep new.part
 tpnet backup new.part new
 tpnet backup new.part new --explain
+tpnet backup also new --explain
 stay
 there new
 
@@ -189,6 +191,16 @@ rival links other
 tpnet backup device copy
 there other
 equal copy.part theirs
+stay
+remove copy
+remove copy.part
+# So it is right before that is looked at: nothing gets the copy's name.
+copy theirs other
+rival looks other
+tpnet backup device copy
+there other
+equal copy.part theirs
+there copy
 stay
 story words
 # Words that are refused before any file is opened.

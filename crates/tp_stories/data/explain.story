@@ -478,7 +478,9 @@ tpnet format device net.txt . 16384
 sweep alone all 0
 remove copy
 tpnet backup device copy --explain >out 2>err
+starts err tpnet: ReadFailed\n
 has err \n  copy: 
+has err \n  device opens now. Of Busy: another process writes it so fast that no moment of it could be copied; try again, or stop that process.\n  Of DeviceFailed: the copy didn't open to what the device opened to. Else memory was wanting, or a read failed.\n
 end
 
 story numbers_of_ends

@@ -206,6 +206,13 @@ there device.stop
 end
 empty device.stop
 equal device old
+# Nobody has the device here. It is opened again for its head: if that can't be read, nothing is said of a stream.
+held
+sweep alone all
+tpnet stop device
+there device.stop
+end
+equal device old
 
 story into_device
 # Standard output is the device's file: nothing is done, printed over it, or made elsewhere.

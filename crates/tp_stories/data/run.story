@@ -350,7 +350,19 @@ length device
 remove device
 tpnet format device net.txt . 16384 --explain
 length device
+# What it makes may be a folder.
+held 0 1 one/
+tpnet run one --turns 4 --explain
+held 0 1 two/
+tpnet run two --stream --turns 4 --discard 0 --explain
+held 0 1 three/
+tpnet compact three --explain
+held 0 1 four/
+tpnet format four net.txt . 16384 --explain
 held
+# Where it was there before, it is no device.
+tpnet run one --turns 4
+tpnet compact one
 tpnet format device net.txt . 16384
 held 0 1 device
 tpnet format device net.txt . 16384

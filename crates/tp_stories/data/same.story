@@ -188,6 +188,17 @@ tpnet compact device 2>err
 empty err
 tpnet format device net.txt . 16384 2>err
 empty err
+tpnet node device 0
+tpnet port device 0
+tpnet waits device
+tpnet image device 0
+tpnet trace device 0
+# It is that first, whatever else it is: the input of a run, and standard error.
+tpnet run device --turns 4 --in device
+stand stdout=device stderr=device
+tpnet run device --turns 4
+stand stdout=a.img stderr=a.img
+tpnet run device --turns 4 --in a.img
 stand
 stay
 

@@ -111,6 +111,27 @@ impl<'a, R: Files> Write for Reader<'a, R> {
     }
 }
 
+/// The most bytes that standard error takes at once.
+const MOST_SAID: usize = 20;
+
+/// The reader of standard error: it keeps what comes, and takes few bytes at once.
+#[derive(Drop)]
+struct Hearer {
+    bytes: Vec<u8>,
+}
+
+impl Write for Hearer {
+    fn write(&mut self, buf: &[u8]) -> io::Result<usize> {
+        let few = buf.len().min(MOST_SAID);
+        self.bytes.extend_from_slice(&buf[..few])?;
+        Ok(few)
+    }
+
+    fn flush(&mut self) -> io::Result<()> {
+        Ok(())
+    }
+}
+
 /// Does what a command asks for, as the program does.
 fn carry_out<
     R: Files<File = F> + AllocGlobal,
@@ -122,7 +143,9 @@ fn carry_out<
         feed: Plain::new(input),
         was_asked: false,
     };
-    let mut err = Vec::new(rt.alloc());
+    let mut err = Hearer {
+        bytes: Vec::new(rt.alloc()),
+    };
     let mut out = Reader {
         rt,
         made: stage.made.as_ref(),
@@ -146,7 +169,7 @@ fn carry_out<
         status,
         was_heard: feed.was_asked,
         out: out.bytes,
-        err,
+        err: err.bytes,
     }
 }
 

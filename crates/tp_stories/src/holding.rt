@@ -10,7 +10,7 @@ use tp_program::{Held, InUse, Locks};
 use tp_stream_files::{FileNumbers, numbers_in};
 
 /// How often a command asks in vain for a device that another process has, before that lets it go; and the file that the process removes after each
-/// request up to one, or makes, if a `+` is before it.
+/// request up to one, or makes, if a `+` is before it. With a `/` after it, it is a folder that is made.
 #[derive(Drop)]
 pub(crate) struct Holding {
     vain: u32,
@@ -75,8 +75,11 @@ pub(crate) struct Other<'a, R> {
     asked: AtomicU64,
 }
 
-/// Removes a file, or makes it, empty, if a `+` is before it.
+/// Removes a file, or makes it, empty, if a `+` is before it. Makes a folder if a `/` is after it.
 fn change<R: Files>(rt: &R, file: &str) -> io::Result<()> {
+    if let Some(folder) = file.strip_suffix('/') {
+        return fs::create_dir(rt, folder);
+    }
     match file.strip_prefix('+') {
         Some(made) => {
             OpenOptions::new()

@@ -1,6 +1,8 @@
 //! `tp_stories`: plays stories of commands, and prints what each of them did.
 #![tactic(auto)]
 
+ghost use Rattle.std.specs.Prelude.{◌≡◌};
+
 mod commands;
 mod failing;
 mod faulty;
@@ -21,7 +23,7 @@ mod watching;
 
 use faulty::Faults;
 use playing::play_file;
-use redirected::{Redirected, Redirects};
+use redirected::{Redirected, Redirects, TERMINAL};
 use std::fs::{Files, OpenFile};
 use std::io::Write;
 use std::os::unix::fs::FileExt;
@@ -30,6 +32,8 @@ use std::rt::Env;
 use std::sync::Wait;
 use std::thread::Threads;
 use std::{env, io};
+use tp_standard::{Apart, Backlog, Behind, Patient, Printing, System};
+use tp_stream_files::StandardStream;
 
 /// Plays the files of stories that the words name. Answers whether each line of them could be played.
 fn play_files<
@@ -43,16 +47,45 @@ fn play_files<
     for path in env::args(rt)?.skip(1) {
         are_played = play_file(rt, files, path.as_str(), out)? && are_played;
     }
-    out.flush()?;
     Ok(are_played)
 }
 
+/// A standard stream that no story redirects.
+fn untouched(stream: StandardStream) -> Behind
+    ensures { result.stream ≡ stream }
+{
+    Behind {
+        stream,
+        file: TERMINAL,
+    }
+}
+
+/// Says that this was all, once all is printed: the first words as what a command says, and the others as what it prints. Answers whether nothing was
+/// left unwritten before.
+fn tell_end<E: Write, O: Write>(said: &mut E, unwritten: &Backlog, printed: &mut O) -> bool {
+    let is_written = said.flush().is_ok() && unwritten.is_counted() && unwritten.is_empty();
+    said.write_all(b"That was").is_ok() && printed.write_all(b" all.\n").is_ok() && is_written
+}
+
 fn main(rt: HostRuntime) -> ExitCode {
-    let mut out = rt.stdout();
     let faults = Faults::none();
-    let files = Redirected::new(&rt, &faults);
-    match play_files(&rt, &files, &mut out) {
-        Ok(true) => ExitCode::SUCCESS,
+    let system = System::new(
+        &rt,
+        untouched(StandardStream::In),
+        untouched(StandardStream::Out),
+        untouched(StandardStream::Error),
+    );
+    let files = Redirected::new(&system, &faults);
+    let backlog = Backlog::new(rt.alloc());
+    let unwritten = backlog.shared();
+    let mut printed = Printing::new(&rt, Patient::new(rt, rt.stdout()), backlog.shared());
+    let mut said = Apart::new(rt, rt.stdout(), backlog);
+    let played = play_files(&rt, &files, &mut said);
+    let is_told = tell_end(&mut said, &unwritten, &mut printed);
+    said.end();
+    match played {
+        Ok(true) if is_told => ExitCode::SUCCESS,
+        Ok(true) => ExitCode::from(3),
         Ok(false) => ExitCode::from(1),
         Err(error) => {
             let _ = write!(rt.stderr(), "tp_stories: {error}\n");

@@ -1,6 +1,7 @@
 //! The files below, for commands whose standard streams are files or whose calls fail.
 
 use crate::faulty::{Faults, FaultyFile};
+use crate::rival::Usurps;
 use std::alloc::{Allocator, Global};
 use std::fs::{Files, Metadata, OpenOptions};
 use std::io;
@@ -13,8 +14,8 @@ pub(crate) trait Redirects: StandardStreams {
     /// Takes these for the standard streams from now on.
     fn redirect(&self, streams: Vec<(StandardStream, String)>);
 
-    /// Has another process move a file of this path over one that is linked, right before it is, or none.
-    fn usurp(&self, file: Option<String>);
+    /// Has another process move a file of this path over one that is to be linked, at that moment, or none.
+    fn usurp(&self, usurper: Option<(Usurps, String)>);
 
     /// What becomes of calls.
     fn faults(&self) -> &Faults;
@@ -27,7 +28,7 @@ pub(crate) struct Redirected<'a, R> {
     below: &'a R,
     faults: &'a Faults,
     streams: Mutex<Vec<(StandardStream, String)>>,
-    usurper: Mutex<Option<String>>,
+    usurper: Mutex<Option<(Usurps, String)>>,
 }
 
 impl<'a, R: AllocGlobal> Redirected<'a, R> {
@@ -53,13 +54,13 @@ fn path_behind(streams: &[(StandardStream, String)], stream: StandardStream) -> 
     None
 }
 
-impl<'a, R: Files + Wait> Redirects for Redirected<'a, R> {
+impl<'a, R: Files + StandardStreams + Wait> Redirects for Redirected<'a, R> {
     fn redirect(&self, streams: Vec<(StandardStream, String)>) {
         *self.streams.lock(self.below) = streams;
     }
 
-    fn usurp(&self, file: Option<String>) {
-        *self.usurper.lock(self.below) = file;
+    fn usurp(&self, usurper: Option<(Usurps, String)>) {
+        *self.usurper.lock(self.below) = usurper;
     }
 
     fn faults(&self) -> &Faults {
@@ -67,8 +68,24 @@ impl<'a, R: Files + Wait> Redirects for Redirected<'a, R> {
     }
 }
 
+impl<'a, R: Files + Wait> Redirected<'a, R> {
+    /// Moves another process's file over the one at a path, if it does that now. It does so once.
+    fn come(&self, now: Usurps, path: &str) {
+        let mut usurper = self.usurper.lock(self.below);
+        if let Some((usurps, file)) = &*usurper {
+            if *usurps != now {
+                return;
+            }
+            let _gone = self.below.remove_file(path);
+            let _moved = self.below.hard_link(file.as_str(), path);
+            let _left = self.below.remove_file(file.as_str());
+            *usurper = None;
+        }
+    }
+}
+
 /// A standard stream that is no file of the story.
-const TERMINAL: StandardFile = StandardFile {
+pub(crate) const TERMINAL: StandardFile = StandardFile {
     numbers: None,
     is_regular: false,
 };
@@ -84,12 +101,12 @@ fn standard_at<R: Files>(rt: &R, path: &str) -> StandardFile {
     }
 }
 
-impl<'a, R: Files + Wait> StandardStreams for Redirected<'a, R> {
+impl<'a, R: Files + StandardStreams + Wait> StandardStreams for Redirected<'a, R> {
     fn behind(&self, stream: StandardStream) -> StandardFile {
         let streams = self.streams.lock(self.below);
         match path_behind(streams.as_slice(), stream) {
             Some(path) => standard_at(self.below, path),
-            None => TERMINAL,
+            None => self.below.behind(stream),
         }
     }
 }
@@ -131,6 +148,9 @@ impl<'a, R: Files + Wait> Files for Redirected<'a, R> {
     }
 
     fn metadata(&self, path: &str) -> io::Result<Metadata> {
+        if path.ends_with(".part") {
+            self.come(Usurps::AtLook, path);
+        }
         self.below.metadata(path)
     }
 
@@ -159,9 +179,7 @@ impl<'a, R: Files + Wait> Files for Redirected<'a, R> {
     fn hard_link(&self, original: &str, link: &str) -> io::Result<()> {
         self.faults.pass_path()?;
         self.faults.note_name();
-        if let Some(file) = &*self.usurper.lock(self.below) {
-            let _moved = self.below.rename(file.as_str(), original);
-        }
+        self.come(Usurps::AtLink, original);
         self.below.hard_link(original, link)
     }
 

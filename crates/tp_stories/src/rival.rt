@@ -6,13 +6,22 @@ use std::fs::Files;
 use std::sync::atomic::{AtomicU64, Ordering};
 use std::{fs, io};
 
+/// When a file is moved over one that is to get a second name.
+#[derive(Clone, Copy, PartialEq, Eq)]
+pub(crate) enum Usurps {
+    /// Right before what is there is asked for the first time.
+    AtLook,
+    /// Right before that gets its second name.
+    AtLink,
+}
+
 /// What another process does at the path of a device while a command makes it.
 #[derive(Drop)]
 pub(crate) struct Rival {
     /// Whether it takes the lock of a file that was made there.
     pub(crate) locks: bool,
-    /// Whether it moves a file over one that is to get a second name, right before it gets that.
-    links: bool,
+    /// When it moves a file over one that is to get a second name, if it does so.
+    usurps: Option<Usurps>,
     /// After which of the questions that a command asks of the device which it holds a file is moved there; after none for 0.
     behind: u64,
     /// That file.
@@ -24,13 +33,13 @@ impl Rival {
     pub(crate) fn none(alloc: Global) -> Rival {
         Rival {
             locks: false,
-            links: false,
+            usurps: None,
             behind: 0,
             file: String::new(alloc),
         }
     }
 
-    /// What words say: `locks`, `links FILE`, or `COUNT FILE`.
+    /// What words say: `locks`, `looks FILE`, `links FILE`, or `COUNT FILE`.
     pub(crate) fn read(alloc: Global, words: &str) -> io::Result<Rival> {
         let none = Rival::none(alloc);
         match parted(words) {
@@ -40,8 +49,13 @@ impl Rival {
                 ..none
             }),
             (_, "") => Err(malformed()),
+            ("looks", file) => Ok(Rival {
+                usurps: Some(Usurps::AtLook),
+                file: String::from_str(alloc, file)?,
+                ..none
+            }),
             ("links", file) => Ok(Rival {
-                links: true,
+                usurps: Some(Usurps::AtLink),
                 file: String::from_str(alloc, file)?,
                 ..none
             }),
@@ -53,12 +67,11 @@ impl Rival {
         }
     }
 
-    /// The file that it moves over one that is to get a second name, if it does so.
-    pub(crate) fn usurper(&self, alloc: Global) -> io::Result<Option<String>> {
-        if self.links {
-            Ok(Some(String::from_str(alloc, self.file.as_str())?))
-        } else {
-            Ok(None)
+    /// The file that it moves over one that is to get a second name, and when, if it does so.
+    pub(crate) fn usurper(&self, alloc: Global) -> io::Result<Option<(Usurps, String)>> {
+        match self.usurps {
+            Some(usurps) => Ok(Some((usurps, String::from_str(alloc, self.file.as_str())?))),
+            None => Ok(None),
         }
     }
 

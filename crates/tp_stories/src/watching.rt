@@ -3,6 +3,7 @@
 use crate::typed::{number_of, parted};
 use std::alloc::Global;
 use std::fs::Files;
+use std::time::Duration;
 use std::{fs, io};
 use tp_program::Watch;
 
@@ -70,8 +71,8 @@ impl<'a, R: Files> Watch for Watcher<'a, R> {
         self.now
     }
 
-    fn clock(&mut self) -> Option<u64> {
-        Some(START.saturating_add(self.now / 1000))
+    fn clock(&mut self) -> Option<Duration> {
+        Some(Duration::from_millis(START.saturating_mul(1000).saturating_add(self.now)))
     }
 
     fn pause(&mut self, seconds: u32) -> bool {

@@ -4,6 +4,7 @@ use std::fs::{File, Files, OpenOptions, TryLockError};
 use std::thread::sleep;
 use std::time::{Clock, Duration};
 use tp_program::{Watch, is_openable};
+use tp_standard::millis;
 
 /// Looks at a device's lock by taking a shared one, which it gives back at once, and goes by the system's clock.
 #[derive(Drop)]
@@ -30,17 +31,11 @@ impl<'a, R: Files<File = File> + Clock> Watch for Watcher<'a, R> {
     }
 
     fn now(&mut self) -> u64 {
-        match self.rt.monotonic() {
-            Ok(time) => u64::try_from(time.as_millis()).unwrap_or(0),
-            Err(_) => 0,
-        }
+        millis(self.rt)
     }
 
-    fn clock(&mut self) -> Option<u64> {
-        match self.rt.since_1970() {
-            Ok(time) => Some(time.as_secs()),
-            Err(_) => None,
-        }
+    fn clock(&mut self) -> Option<Duration> {
+        self.rt.since_1970().ok()
     }
 
     fn pause(&mut self, seconds: u32) -> bool {
