@@ -1,19 +1,19 @@
 //! `tpnet stop`: asks the stream that has a device to end.
 
 ghost use Rattle.std.specs.Prelude.{◌≡◌, ◌≤◌, [], ◌∷◌, ◌++◌, false, true, replicate, IfErr, OnOk, string_bytes};
-ghost use Rattle.std.specs.Io.KnownBytes.{Appends};
+ghost use Rattle.tp_program.specs.Lower.{Appends, error_kind};
 ghost use Rattle.tp_program.specs.Devices.{Holds, Requests};
 ghost use Rattle.tp_program.specs.Stops.{GotWithin, HasAsked, IsOfNobody, StopAnswered, WasHeldElsewhere, WasUnasked, request_path, stop_line};
 ghost use Rattle.tp_program.specs.Uses.{AsksAgain, HasRequested};
 
 use crate::asking_explain::explain_unasked;
-use crate::devices::Devices;
+use crate::devices::{Devices, file_to_write};
 use crate::files::{disk_to_read, read_refusal};
 use crate::locks::InUse;
 use crate::program::{prints_into, refuse_output};
 use crate::request_file::RequestFile;
-use std::fs::{Files, OpenFile, OpenOptions};
-use std::io::Write;
+use std::fs::{Files, OpenFile};
+use std::io::{ErrorKind, Write};
 use std::os::unix::fs::FileExt;
 use std::{fmt, io};
 use tp_recover::read_head;
@@ -69,12 +69,15 @@ impl fmt::Display for Unasked {
 }
 
 /// Opens the device's file as a run does, and closes it, without reading or writing it. If that fails, what the system said goes into `system`.
-fn look_at<R: Files>(rt: &R, device: &str, system: &mut Option<io::Error>) -> Result<(), Refusal> {
+fn look_at<R: Files<File = F>, F: OpenFile + Drop>(
+    rt: &R,
+    device: &str,
+    system: &mut Option<io::Error>,
+) -> Result<(), Refusal> {
     if !is_openable(rt, device) {
         return Err(Refusal::ReadFailed);
     }
-    let mut how = OpenOptions::new();
-    match how.read(true).write(true).open(rt, device) {
+    match file_to_write(rt, device) {
         Ok(_file) => Ok(()),
         Err(error) => {
             let refusal = read_refusal(&error);
@@ -116,10 +119,14 @@ fn nobody_asked<R: Files<File = F>, F: FileExt + OpenFile + Drop>(
 }
 
 /// Gives why no request is made, for an error of the system.
-fn unmade_of(error: &io::Error) -> Unmade {
+fn unmade_of(error: &io::Error) -> Unmade
+    ensures exists { error_kind error.now ≡ ErrorKind.AlreadyExists → result ≡ Unmade.StopExists }
+    ensures memory { error_kind error.now ≡ ErrorKind.OutOfMemory → result ≡ Unmade.Memory }
+    ensures failed { (error_kind error.now ≡ ErrorKind.AlreadyExists → ⊥) → (error_kind error.now ≡ ErrorKind.OutOfMemory → ⊥) → result ≡ Unmade.DeviceFailed }
+{
     match error.kind() {
-        io::ErrorKind::AlreadyExists => Unmade::StopExists,
-        io::ErrorKind::OutOfMemory => Unmade::Memory,
+        ErrorKind::AlreadyExists => Unmade::StopExists,
+        ErrorKind::OutOfMemory => Unmade::Memory,
         _ => Unmade::DeviceFailed,
     }
 }

@@ -415,7 +415,10 @@ impl<
 }
 
 /// Opens the file of a device to be written. It stays as it is.
-fn file_to_write<R: Files<File = F>, F: OpenFile + Drop>(rt: &R, path: &str) -> io::Result<F> {
+pub(crate) fn file_to_write<R: Files<File = F>, F: OpenFile + Drop>(
+    rt: &R,
+    path: &str,
+) -> io::Result<F> {
     let mut how = OpenOptions::new();
     how.read(true).write(true).open(rt, path)
 }
@@ -463,7 +466,11 @@ fn said_again(error: &io::Error) -> io::Error {
 }
 
 /// Gives why a device wasn't opened, for an error of the system. If another file is at its path by now, another process has it.
-pub(crate) fn opening_refusal(error: &io::Error) -> Refusal {
+pub(crate) fn opening_refusal(error: &io::Error) -> Refusal
+    ensures used { error_kind error.now ≡ ErrorKind.ResourceBusy → result ≡ Refusal.InUse }
+    ensures memory { error_kind error.now ≡ ErrorKind.OutOfMemory → result ≡ Refusal.Memory }
+    ensures failed { (error_kind error.now ≡ ErrorKind.ResourceBusy → ⊥) → (error_kind error.now ≡ ErrorKind.OutOfMemory → ⊥) → result ≡ Refusal.ReadFailed }
+{
     if is_busy(error) {
         Refusal::InUse
     } else {

@@ -1,7 +1,7 @@
 //! `tpnet format`, on files.
 
 ghost use Rattle.std.specs.Prelude.{◌≡◌, ◌≤◌, ◌++◌, ◌∷◌, [], true, Some, IfNone, IfOk, IfSome, map, string_bytes};
-ghost use Rattle.tp_program.specs.Lower.{areas_end, areas_of_length, is_topology, MAX_AREA};
+ghost use Rattle.tp_program.specs.Lower.{error_kind, areas_end, areas_of_length, is_topology, MAX_AREA};
 ghost use Rattle.tp_program.specs.Devices.{Begins, MadeAtMost, path_held};
 ghost use Rattle.tp_program.specs.Uses.{FormattedFile, FormattedNamed, FormattedNetwork, FormattedText, IsApart, image_of, sources_of};
 
@@ -11,7 +11,7 @@ use crate::formatting::format_on;
 use crate::in_use::{changed, is_busy};
 use std::fs::Files;
 use std::io;
-use std::io::Write;
+use std::io::{ErrorKind, Write};
 use tp_area::{head_length, version_for};
 use tp_disk::Disk;
 use tp_model::HeadVersion;
@@ -72,9 +72,13 @@ fn refuse_sources<R: Files + AllocGlobal, E: Write>(
 }
 
 /// Gives why a device wasn't made, for an error of the system. If another file came to its path meanwhile, another process has it.
-fn making_refusal(error: &io::Error) -> Refusal {
+fn making_refusal(error: &io::Error) -> Refusal
+    ensures exists { error_kind error.now ≡ ErrorKind.AlreadyExists → result ≡ Refusal.DeviceExists }
+    ensures used { error_kind error.now ≡ ErrorKind.ResourceBusy → result ≡ Refusal.InUse }
+    ensures failed { (error_kind error.now ≡ ErrorKind.AlreadyExists → ⊥) → (error_kind error.now ≡ ErrorKind.ResourceBusy → ⊥) → result ≡ Refusal.DeviceFailed }
+{
     match error.kind() {
-        io::ErrorKind::AlreadyExists => Refusal::DeviceExists,
+        ErrorKind::AlreadyExists => Refusal::DeviceExists,
         _ if is_busy(error) => Refusal::InUse,
         _ => Refusal::DeviceFailed,
     }
@@ -106,7 +110,7 @@ fn make_file<S: Devices>(devices: &mut S, new: &NewDevice) -> io::Result<Option<
 {
     match devices.make(new.device.as_str()) {
         Ok(made) => Ok(Some(made)),
-        Err(error) if error.kind() == io::ErrorKind::AlreadyExists && !new.only_new => Ok(None),
+        Err(error) if error.kind() == ErrorKind::AlreadyExists && !new.only_new => Ok(None),
         Err(error) => Err(error),
     }
 }

@@ -1,6 +1,6 @@
 //! What is said if another process holds the device.
 
-ghost use Rattle.std.specs.Prelude.{◌≡◌};
+ghost use Rattle.std.specs.Prelude.{◌≡◌, ◌↔◌, true};
 ghost use Rattle.std.specs.IoError.{error_kind};
 
 use std::io;
@@ -29,7 +29,9 @@ pub(crate) fn changed() -> io::Error
 }
 
 /// Whether an error of the system, or [`changed`], says that something is in use.
-pub(crate) fn is_busy(error: &io::Error) -> bool {
+pub(crate) fn is_busy(error: &io::Error) -> bool
+    ensures { (result ≡ true) ↔ (error_kind error.now ≡ ErrorKind.ResourceBusy) }
+{
     error.kind() == ErrorKind::ResourceBusy
 }
 
