@@ -1,6 +1,6 @@
 //! The rights of a copy, by those of its device.
 
-ghost use Rattle.std.specs.Prelude.{◌≡◌, bit_and};
+ghost use Rattle.std.specs.Prelude.{◌≡◌, bit_and, None, Some};
 ghost use Rattle.std.specs.Fs.{metadata_mode};
 ghost use Rattle.tp_program.specs.Rights.{first_rights, rights_in, shared_right, shared_rights};
 
@@ -47,6 +47,18 @@ fn shared_rights(bits: u32) -> u32
     bits & OWNER | read | write | run
 }
 
+/// Gives these rights if a file of this mode hasn't just them.
+fn lacked(bits: u32, mode: u32) -> Option<u32>
+    ensures given { bit_and mode 0o777 ≡ bits → result ≡ None }
+    ensures lacked { (bit_and mode 0o777 ≡ bits → ⊥) → result ≡ Some bits }
+{
+    if mode & RIGHTS == bits {
+        None
+    } else {
+        Some(bits)
+    }
+}
+
 impl Rights {
     /// Gives the rights of a device's file.
     pub(crate) fn of(device: &Metadata) -> Rights
@@ -78,10 +90,9 @@ impl Rights {
 
     /// Gives the copy's file its rights, unless it has them already.
     pub(crate) fn give<F: OpenFile>(self, file: &F, kept: &Metadata) -> io::Result<()> {
-        let bits = self.within(kept.gid());
-        if kept.permissions().mode() & RIGHTS == bits {
-            return Ok(());
+        match lacked(self.within(kept.gid()), kept.permissions().mode()) {
+            Some(bits) => file.set_permissions(Permissions::from_mode(bits)),
+            None => Ok(()),
         }
-        file.set_permissions(Permissions::from_mode(bits))
     }
 }

@@ -382,6 +382,11 @@ tpnet run net.txt --turns=4 --in /dev/null --explain
 text net.txt node a 4\nport g\nport h\nwire a.0 g\nwire a.3 h\n
 tpnet format two net.txt . 32768
 tpnet run two --turns 0 --port 1 --in a.img --explain
+# Of a port, a node or pages that aren't there nothing more is said.
+tpnet run two --turns 0 --port 2 --explain
+tpnet run two --turns 0 --spare 5 --explain
+tpnet node two 1 --explain
+tpnet run two --stream --turns 0 --discard 0 --discard 1 --discard 2 --explain
 
 story unprinted
 # Standard output can't be written: what was done is told, where nothing else is wrong.
@@ -407,6 +412,16 @@ tpnet run device --stream --quantum=64 --turns=9 --explain --in 0=folder --disca
 tpnet run device --stream --quantum=64 --turns=9 --explain --in 0=nowhere --discard 0 >out
 # Of words that name one file twice nothing more is said.
 tpnet run device --stream --turns=9 --out 0=device --explain
+
+story ports_of_ends
+# Of two ports it is told whose file it is, whatever comes first in the command.
+text net.txt node a 4\nport from\nport to\nwire a.0 from\nwire a.3 to\n
+image a.img 11 24 F2 54 41 F7 11 24 F2 53 41 FB 60 02
+tpnet format device net.txt . 65536
+tpnet run device --stream --until-quiet --explain --out 1=fine --out 0=nowhere/out
+tpnet run device --stream --until-quiet --explain --out 0=nowhere/out --out 1=fine
+tpnet run device --stream --until-quiet --explain --discard 0 --discard 1 --in 1=net.txt --in 0=nowhere/in
+tpnet run device --stream --until-quiet --explain --discard 0 --discard 1 --in 0=nowhere/in --in 1=net.txt
 
 story unwritten
 # A file that takes an output fails at a call: three ask which it is and how long, one syncs it, one writes, and one syncs that. Of the last two it is
@@ -468,6 +483,13 @@ copy old device
 tpnet run device --stream --turns 4 --discard 0 --explain >out 2>err
 has err \n  device: 
 end
+# No read brings a byte, nor does one later: the one is told, and then the other.
+copy old device
+calls most 0
+tpnet run device --stream --turns 4 --discard 0 --explain
+tpnet compact device --explain
+tpnet run device --turns 4 --explain
+calls
 
 story failed_copy
 # Of a backup the system's words are told where a call on the copy's file or its names failed, and not where one on the device did, which is opened
@@ -506,6 +528,11 @@ sweep alone device 5
 copy old device
 tpnet format device net.txt . 20000 --explain
 end
+# And of one that wasn't there.
+sweep alone all 10
+remove device
+tpnet format device net.txt . 20000 --explain
+end
 
 story no_devices
 # What is no device: a folder, and what is no regular file.
@@ -513,6 +540,7 @@ folder there
 tpnet show there --explain
 tpnet show /dev/null --explain
 tpnet run there --stream --until-quiet --discard 0 --explain
+tpnet run nowhere --stream --until-quiet --discard 0 --explain
 tpnet run /dev/null --stream --until-quiet --discard 0 --explain
 
 story images

@@ -218,6 +218,9 @@ text theirs theirs
 rival locks
 tpnet format device net.txt . 16384 --explain
 length device
+remove device
+tpnet format --new device net.txt . 16384
+length device
 # It moves a file there right before one is made, which --new says.
 remove device
 copy theirs other
@@ -230,6 +233,17 @@ tpnet format --new device net.txt . 16384
 equal device theirs
 # It does so right behind that, before the file is opened.
 remove device
+copy theirs other
+rival 2 other
+tpnet format device net.txt . 16384
+equal device theirs
+# It does so once the file is open: that one is formatted, which nothing names any more.
+remove device
+copy theirs other
+rival 3 other
+tpnet format device net.txt . 16384
+equal device theirs
+# So it is where there was one before.
 copy theirs other
 rival 2 other
 tpnet format device net.txt . 16384
@@ -360,6 +374,14 @@ tpnet format --new also_image net.txt . 65536 2>err
 starts err tpnet: DEVICE 
 ends err nothing was written\n
 stay
+# It is told which file that would be: the topology first, if it is an image, too.
+folder images
+tpnet format ./net.txt net.txt . 65536
+tpnet format to_image net.txt . 65536
+link net.txt images/b.img
+copy a.img images/a.img
+tpnet format images/b.img net.txt images 65536
+tpnet format --new images/a.img to_net ./images 65536
 # A link to another file does.
 tpnet format to_other net.txt . 65536
 tpnet format also_other net.txt . 65536

@@ -245,13 +245,16 @@ fill other 0 00
 keep device given
 stand stdout=given
 tpnet run device --turns 30 --workers 1 --in given
-tpnet run device --turns 30 --workers 1 --in also_given
+tpnet run device --turns 0 --in also_given
 tpnet run device --turns 30 --workers 1 --in to_given --explain
 stay
 stand stdout=other
 tpnet run device --turns 30 --workers 1 --in given >out
-stand
 equal out given
+# A file that has no bytes to lose may be both.
+stand stdout=/dev/null
+tpnet run device --turns 0 --in /dev/null >out
+stand
 
 story said_over
 # A run whose standard output and standard error are one file, under whatever name, would have what it says written over what its port puts out. It

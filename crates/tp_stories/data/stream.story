@@ -212,6 +212,30 @@ text given ab
 tpnet run device --stream --until-quiet --discard 0 --discard 1 --in 1=given
 tpnet run device --stream --stop-on-halt --discard 0 --discard 1
 
+story inside
+# Two nodes wait for each other, and a third one sends back what its port gets. Who waits is told by --explain alone, and only if the stream ended
+# because nothing was left to do.
+text net.txt node a 4\nnode b 4\nnode c 4\nport h\nwire a.0 h\nwire b.0 c.0\n
+image a.img 11 24 F2 54 41 F7 11 24 F2 41 FB 60 03
+image b.img 11 24 F2 54 41 F7
+image c.img 11 24 F2 54 41 F7
+tpnet format fresh net.txt . 65536
+text given ab
+copy fresh device
+tpnet run device --stream --quantum=64 --workers 1 --until-quiet --out 0=- --in 0=given --explain
+copy fresh device
+tpnet run device --stream --quantum=64 --workers 1 --out 0=- --in 0=given --explain
+copy fresh device
+fill more 10000 61
+reader-makes device.stop
+tpnet run device --stream --quantum=64 --out 0=- --in 0=more --explain >out 2>err
+ends err  stopped\n
+reader-makes
+image c.img 40 30
+tpnet format device net.txt . 65536
+tpnet run device --stream --quantum=64 --stop-on-halt --discard 0 --workers 1 --explain 2>err
+ends err halted\n
+
 story pages
 # A node of 16 pages writes a word into each of twelve of them, a thousand times, then sends the letter A and stops. It writes more
 # pages than it has spare frames, and isn't quiet while a snapshot holds it back: its byte comes.
@@ -480,6 +504,47 @@ join both front rest
 equal both given
 there stop
 
+story stopped_otherwise
+# What is at the path of a stop file may be a folder. A request ends a stream that has a stop file, too. A link that leads nowhere ends none.
+text net.txt node a 4\nport h\nwire a.0 h\n
+image a.img 11 24 F2 54 41 F7 11 24 F2 41 FB 60 03
+tpnet format fresh net.txt . 16384
+fill given 10000 61
+copy fresh device
+reader-makes stop/
+tpnet run device --stream --quantum=64 --out 0=- --in 0=given --stop-file stop >front 2>err
+ends err  stopped\n
+copy fresh device
+reader-makes device.stop
+tpnet run device --stream --quantum=64 --out 0=- --in 0=given --stop-file other >front 2>err
+ends err  stopped\n
+there device.stop
+reader-makes
+copy fresh device
+symlink nothing dangling
+tpnet run device --stream --quantum=64 --out 0=- --in 0=given --stop-file dangling >front 2>err
+ends err gone\n
+equal front given
+
+story stop_file_of_ports
+# Of two ports no file of an output or input is one that stops the stream, and neither is a request.
+text net.txt node a 4\nport x\nport y\nwire a.1 x\nwire a.0 y\n
+image a.img 24 F2 51 24 42 FE 24 F2 24 41 FE 21 F5
+tpnet format device net.txt . 32768
+text one
+text two
+keep device one two
+tpnet run device --stream --until-quiet --out 0=x --out 1=y --in 0=one --in 1=two --stop-file ./two
+tpnet run device --stream --until-quiet --out 0=one --out 1=two --stop-file ./two
+tpnet run two --stream --until-quiet --discard 0 --out 1=y --stop-file ./two
+text device.stop
+tpnet run device --stream --until-quiet --out 0=one --out 1=device.stop
+# The stop file is looked at first.
+tpnet run device --stream --until-quiet --out 0=one --out 1=device.stop --stop-file one
+tpnet run device --stream --until-quiet --discard 0 --discard 1 --in 0=one --in 1=device.stop
+there x
+stay
+
 story unseen_stop
 # A node sends the letter A again and again. A path that can't be looked at any more is no stop: the stream goes on to its last turn. Each two
 # turns put a letter out. Where the file itself comes it stops.
@@ -575,6 +640,13 @@ has err \x1B[K\x1B[?7h\nnext 1
 has err /s\nnext 1 +0/s mark 1 area 0% generation 1 turns
 has err \x0D
 has err \x1B
+# A line that isn't ended is ended before it is said why the stream has failed.
+text given ab
+looks 10000 stderr
+shut full
+tpnet run device --stream --quantum=64 --out 0=- --in 0=given --no-explain 2>err
+shut
+ends err \x1B[K\x1B[?7h\ntpnet: DeviceFailed\n
 
 story unread
 # A node sends the letter A again and again. Each look at the clock is ten seconds behind the one before, and 1,024 turns lie between two looks, but

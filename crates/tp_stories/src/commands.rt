@@ -94,6 +94,15 @@ struct Reader<'a, R> {
     bytes: Vec<u8>,
 }
 
+/// Makes an empty file; or a folder, if a `/` is after it, and it isn't there.
+fn make<R: Files>(rt: &R, file: &str) -> io::Result<()> {
+    match file.strip_suffix('/') {
+        Some(folder) if fs::metadata(rt, folder).is_ok() => Ok(()),
+        Some(folder) => fs::create_dir(rt, folder),
+        None => fs::write(rt, file, b""),
+    }
+}
+
 impl<'a, R: Files> Write for Reader<'a, R> {
     fn write(&mut self, buf: &[u8]) -> io::Result<usize> {
         if let Some(kind) = self.refuses {
@@ -101,7 +110,7 @@ impl<'a, R: Files> Write for Reader<'a, R> {
         }
         self.bytes.extend_from_slice(buf)?;
         if let Some(file) = self.made {
-            fs::write(self.rt, file.as_str(), b"")?;
+            make(self.rt, file.as_str())?;
         }
         Ok(buf.len())
     }

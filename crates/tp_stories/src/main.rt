@@ -60,11 +60,14 @@ fn untouched(stream: StandardStream) -> Behind
     }
 }
 
-/// Says that this was all, once all is printed: the first words as what a command says, and the others as what it prints. Answers whether nothing was
-/// left unwritten before.
+/// Says that this was all: word by word as what a command says, which is waited for, as what it prints, before which it is waited for, and as what is
+/// left to be written in the end. Answers whether the first word was written once it was waited for.
 fn tell_end<E: Write, O: Write>(said: &mut E, unwritten: &Backlog, printed: &mut O) -> bool {
-    let is_written = said.flush().is_ok() && unwritten.is_counted() && unwritten.is_empty();
-    said.write_all(b"That was").is_ok() && printed.write_all(b" all.\n").is_ok() && is_written
+    let is_said = said.write_all(b"That").is_ok() && said.flush().is_ok();
+    let is_written = unwritten.is_counted() && unwritten.is_empty();
+    let is_said = is_said && said.write_all(b" was").is_ok();
+    let is_printed = printed.write_all(b" all").is_ok();
+    is_said && is_written && is_printed && said.write_all(b".\n").is_ok()
 }
 
 fn main(rt: HostRuntime) -> ExitCode {
