@@ -101,6 +101,10 @@ text maps/0.map 80000108 send a.asm:5\n
 tpnet trace device 0 --map maps
 tpnet trace device 1 --map maps --to 1
 tpnet trace device 1 --map none
+# A map without a row is one, too, also if the folder has no other.
+folder empty
+text empty/1.map
+tpnet trace device 1 --map empty --to 1
 text maps/0.map oh
 tpnet trace device 1 --map maps
 
