@@ -189,6 +189,15 @@ tpnet check net.txt .
 tpnet check net.txt . --explain
 tpnet try a.img --turns 4
 tpnet try a.img --turns 4 --explain
+tpnet format device net.txt . 13033 --explain
+# Of two images the first bad one is told, by its node's pages.
+text net.txt node a 4\nnode b 5\nport h\n
+image b.img
+tpnet check net.txt . --explain
+image a.img
+tpnet check net.txt . --explain
+set b.img 2 06
+tpnet check net.txt . --explain
 
 story malformed
 # Which rule a malformed line of a topology breaks, and by which word: each rule once at least. The first one is told of several.
@@ -255,6 +264,56 @@ tpnet check net.txt . --explain
 text net.txt node a 4\x0D\nport h\x0D\nwire a.0 h.0\x0D\n
 tpnet check net.txt . --explain
 text net.txt node a 4\nport h\nport i\nport j\nport k\nport l\nport m\nport n\nport o\nport p\n
+tpnet check net.txt . --explain
+# Of two rules the first one is told: of spaces, of the words' number, then of each word in order, and of what lines above say at last.
+text net.txt  nod a 4\nport h\n
+tpnet check net.txt . --explain
+text net.txt node A\nport h\n
+tpnet check net.txt . --explain
+text net.txt node A 3\nport h\n
+tpnet check net.txt . --explain
+text net.txt node a 4\nnode a 3\nport h\n
+tpnet check net.txt . --explain
+text net.txt node a 4\nport h\nwire A.4 h\n
+tpnet check net.txt . --explain
+text net.txt node a 4\nport h\nwire A.0 b.9\n
+tpnet check net.txt . --explain
+text net.txt node a 4\nport h\nwire a h.4\n
+tpnet check net.txt . --explain
+text net.txt node a 4\nport h\nwire a h.1\n
+tpnet check net.txt . --explain
+# What is just right breaks no rule: the line has another fault.
+text net.txt node  a 03\nport h\n
+tpnet check net.txt . --explain
+text net.txt node a-1 3\nport h\n
+tpnet check net.txt . --explain
+text net.txt node abcdefghijklmnop 3\nport h\n
+tpnet check net.txt . --explain
+text net.txt node abcdefghijklmnop 4\nport h\nwire abcdefghijklmnop.4 h\n
+tpnet check net.txt . --explain
+text net.txt port h\nnode h 1024\n
+tpnet check net.txt . --explain
+text net.txt node a 4\nport h\nwire a.3 h.1\n
+tpnet check net.txt . --explain
+text net.txt # h is the host\nnode a 4\nport h\nwire a.0 h.0\n
+tpnet check net.txt . --explain
+# And what is wrong by one byte.
+text net.txt node aB 4\nport h\n
+tpnet check net.txt . --explain
+text net.txt node a 4\x7F\nport h\n
+tpnet check net.txt . --explain
+text net.txt node a 0\nport h\n
+tpnet check net.txt . --explain
+text net.txt node a 4\nport h\nwire a.0.1 h\n
+tpnet check net.txt . --explain
+# Where a line at fault is well formed: the last one, which has no end, and the first one.
+text net.txt node a 4\nport h\nwire a.0 h\nwire a.0 a.1
+tpnet check net.txt . --explain
+text net.txt wire a.0 b.1\nnode a 4\nnode b 4\nport h\n
+tpnet check net.txt . --explain
+fill lines 299 0A
+text last node A 4\n
+join net.txt lines last
 tpnet check net.txt . --explain
 # What is missing, where each line is sound; and a file that is no text at all.
 text net.txt \n# nothing\n
@@ -376,6 +435,9 @@ equal device before
 tpnet try /dev/null --turns=4
 tpnet try /dev/null --turns=4 --explain
 equal device before
+folder there
+tpnet run device --turns=4 --in there
+tpnet run device --turns=4 --in there --explain
 # An input that isn't read again may not be the reason: what the device says is told, too.
 tpnet run net.txt --turns=4 --in /dev/null --explain
 # More comes of it than fits, at another port than the first.
@@ -387,6 +449,19 @@ tpnet run two --turns 0 --port 2 --explain
 tpnet run two --turns 0 --spare 5 --explain
 tpnet node two 1 --explain
 tpnet run two --stream --turns 0 --discard 0 --discard 1 --discard 2 --explain
+# Of an input the bytes count that its port hasn't accepted, as many as it has room for. Here node a has taken one of ten, which made 13 entries. With
+# one byte more than an empty journal has room for compacting doesn't help; with just as many it does.
+image a.img 11 24 F2 57 41 F7 21 F5
+tpnet format two net.txt . 32768
+fill ten 10 6D
+tpnet run two --turns 3 --workers 1 --port 1 --in ten
+tpnet status two
+fill some 367 6D
+tpnet run two --turns 0 --port 1 --in some --explain
+fill some 368 6D
+tpnet run two --turns 0 --port 1 --in some --explain
+fill some 5000 6D
+tpnet run two --turns 0 --port 1 --in some --explain
 
 story unprinted
 # Standard output can't be written: what was done is told, where nothing else is wrong.
@@ -394,7 +469,9 @@ text net.txt node a 4\nport h\nwire a.0 h\n
 image a.img
 tpnet format device net.txt . 16384
 shut full
+tpnet check --help --explain
 tpnet check net.txt . --explain
+tpnet format least net.txt . 13034 --explain
 tpnet show device --explain
 tpnet backup device copy --explain
 tpnet compact device --explain
@@ -533,6 +610,15 @@ sweep alone all 10
 remove device
 tpnet format device net.txt . 20000 --explain
 end
+# It is as it was if it can't be opened to be written. To say what is wrong with one, it needn't be.
+copy old device
+calls read-only
+keep device
+tpnet format device net.txt . 20000 --explain
+stay
+set device 7 03
+tpnet show device --explain
+calls
 
 story no_devices
 # What is no device: a folder, and what is no regular file.
@@ -547,6 +633,9 @@ story images
 # Which rule an image breaks, and at which place.
 image a.img
 set a.img 0 02
+tpnet try a.img --turns 4 --explain
+image a.img
+set a.img 0 00
 tpnet try a.img --turns 4 --explain
 image a.img
 set a.img 2 03
@@ -568,6 +657,14 @@ tpnet try a.img --turns 4 --explain
 image a.img
 set a.img 40 02
 tpnet try a.img --turns 4 --explain
+# Of two the first one is told: a byte that is too great, and Wptr.
+set a.img 8 01
+tpnet try a.img --turns 4 --explain
+# Where no topology names an image, it may have any pages.
+fill page 1024 00
+join b.img a.img page
+set b.img 2 05
+tpnet try b.img --turns 4 --explain
 image a.img
 set a.img 8 01
 tpnet try a.img --turns 4 --explain
@@ -588,11 +685,46 @@ tpnet recover device --explain
 copy compacted device
 set device 33301 02
 tpnet recover device --explain
+copy compacted device
+set device 33299 01
+tpnet recover device --explain
 copy fresh device
 set device 577 09
 tpnet recover device --explain
 copy fresh device
 set device 4821 03
+tpnet recover device --explain
+# Two nodes of 5 and 7 pages, three ports, and a compacted device: of the second node the image and the line of its last link, the line and the record of
+# the last port, and the journal behind it.
+text net.txt node a 5\nnode b 7\nport g\nport h\nport k\nwire a.0 b.1\nwire b.3 g\nwire a.2 k\n
+fill page 1024 00
+image a.img
+join b.img a.img page page page
+set b.img 2 07
+join a.img a.img page
+set a.img 2 05
+tpnet format device net.txt . 50000
+tpnet compact device >out
+copy device compacted
+set device 55825 02
+tpnet recover device --explain
+copy compacted device
+set device 63196 01
+tpnet recover device --explain
+copy compacted device
+set device 63204 01
+tpnet recover device --explain
+copy compacted device
+set device 79676 11
+tpnet recover device --explain
+copy compacted device
+set device 87845 A5
+tpnet recover device --explain
+# The last port of the most that there may be.
+text net.txt node a 4\nport g\nport h\nport i\nport j\nport k\nport l\nport m\nport n\nwire a.3 n\n
+image a.img
+tpnet format device net.txt . 90000
+set device 62352 11
 tpnet recover device --explain
 
 story heads
@@ -632,7 +764,13 @@ copy fresh device
 set device 24 01 01
 tpnet recover device --explain
 copy fresh device
+set device 24 00 01
+tpnet recover device --explain
+copy fresh device
 set device 26 04
+tpnet recover device --explain
+copy fresh device
+set device 54 04
 tpnet recover device --explain
 copy fresh device
 set device 57 01
@@ -642,6 +780,12 @@ set device 57 80
 tpnet recover device --explain
 copy fresh device
 set device 57 81
+tpnet recover device --explain
+copy fresh device
+set device 57 05
+tpnet recover device --explain
+copy fresh device
+set device 59 80
 tpnet recover device --explain
 copy fresh device
 set device 60 01
@@ -656,9 +800,29 @@ copy fresh device
 cut device 33279
 tpnet recover device --explain
 copy fresh device
+set device 16 E9 32
+cut device 26578
+tpnet recover device --explain
+copy fresh device
+cut device 512
+tpnet recover device --explain
+sweep alone device
+tpnet recover device --explain
+end
+copy fresh device
+cut device 511
+tpnet recover device --explain
+copy fresh device
 set device 531 01
 tpnet recover device --explain
 copy fresh device
+set device 532 01
+tpnet recover device --explain
+copy fresh device
+set device 521 DD
+tpnet recover device --explain
+# A plain area, whose form is as it has to be.
+bring kept/one.dev device
 set device 521 DD
 tpnet recover device --explain
 # A wide head.
@@ -692,7 +856,13 @@ copy wide device
 set device 56 01 04
 tpnet recover device --explain
 copy wide device
+set device 56 00 04
+tpnet recover device --explain
+copy wide device
 set device 58 04
+tpnet recover device --explain
+copy wide device
+set device 150 00 01
 tpnet recover device --explain
 copy wide device
 set device 154 44
@@ -713,11 +883,21 @@ copy wide device
 cut device 1023
 tpnet recover device --explain
 copy wide device
+cut device 1024
+tpnet recover device --explain
+copy wide device
+cut device 511
+tpnet recover device --explain
+copy wide device
 cut device 201023
 tpnet recover device --explain
 copy wide device
 set device 1024 00
 tpnet recover device --explain
+# Whichever call fails as it is opened and looked at again.
+sweep alone device
+tpnet recover device --explain
+end
 copy wide device
 set device 1043 01
 tpnet recover device --explain

@@ -134,8 +134,28 @@ tpnet trace a.img --map bad.map --explain
 tpnet trace a.img --map a.map --until send --explain
 tpnet trace a.img --watch 7FFFFFFF --explain
 tpnet trace a.img --in 0=none --explain
-# A file that isn't there is told before a map that is none, a map before a place, and a place before an image that is none.
+tpnet trace a.img --map none --explain
+text in x
+tpnet trace a.img --in 0=in --in 3=none --in 2=in --explain
+# The explanation is of the fault that was named: it checks in the order of the command, which is said below.
 text text.img no image
+text low.map 80000100 start a.asm:3\n7FFFFFFF low a.asm:4\n
+tpnet trace text.img --map none --in 0=f --explain
+tpnet trace absent --map bad.map --in 0=none --explain
+tpnet trace text.img --map bad.map --in 0=none --explain
+tpnet trace text.img --map bad.map --until stop --explain
+tpnet trace text.img --map low.map --until stop --watch low --explain
+tpnet trace text.img --map low.map --until low --watch stop --explain
+tpnet trace text.img --map low.map --until start --watch low --explain
+tpnet trace text.img --map low.map --until low --watch start --explain
+# A link that is at work is no fault here.
+image held.img
+set held.img 109 01
+tpnet trace held.img --until stop --explain
+shut full
+tpnet trace held.img --steps 1 --explain
+shut
+# A file that isn't there is told before a map that is none, a map before a place, and a place before an image that is none.
 tpnet trace a.img --map bad.map --in 0=none
 tpnet trace text.img --until start
 tpnet trace text.img --until 80000100

@@ -280,6 +280,30 @@ text m/all.map 80000100 start \xFF:1\n
 tpnet waits device --map m
 text m/all.map 80000100 start :1\n
 tpnet waits device --map m >out
+# What is wrong with the device is told where nothing is wrong with the maps, be it one for all nodes, or one of any node.
+copy device fresh
+set device 7 03
+tpnet waits device --map m --explain
+remove m/all.map
+text m/0.map 80000100 start a.asm:1\n
+tpnet trace device 0 --map m --explain
+remove m/0.map
+text m/63.map 80000100 start a.asm:1\n
+tpnet node device 0 --map m --explain
+remove m/63.map
+tpnet node device 0 --map m --explain
+# The fault that was named is told: it is that of the first node whose map has one.
+copy fresh device
+text m/all.map 80000100 start a.asm:1\n
+text m/0.map 80000100 start a.asm:1\n80000101 - a.asm:2\n80000102 - a.asm:3\n\n80000103 - a.asm\n
+text m/5.map x\n
+tpnet trace device 0 --map m --explain
+remove m/0.map
+tpnet trace device 0 --map m --explain
+text m/all.map y\n
+tpnet trace device 0 --map m --explain
+remove m/5.map
+tpnet trace device 0 --map m --explain
 
 story hint
 # Behind a stream that ended as quiet it is said, where it is asked for, that processes wait for other nodes. One that waits for a port doesn't count,

@@ -77,16 +77,14 @@ fn push_none(text: &mut String, folder: &str) -> Result<(), AllocError> {
     )
 }
 
-/// Says what is wrong with the first bad map of a folder, or that the folder has none. Answers whether anything was said.
+/// Says what is wrong with the first bad map of a folder, or that the folder has none. Answers whether anything was said. It checks in the order of the
+/// command: the maps of nodes, then the one for all.
 pub(crate) fn push_maps<R: Files + AllocGlobal>(
     rt: &R,
     text: &mut String,
     folder: &str,
 ) -> Result<bool, AllocError> {
-    let (mut is_there, is_wrong) = push_there(rt, text, folder, None)?;
-    if is_wrong {
-        return Ok(true);
-    }
+    let mut is_there = false;
     for node in 0..MAX_NODES {
         let (is_own_there, is_wrong) = push_there(rt, text, folder, Some(node))?;
         if is_wrong {
@@ -94,8 +92,10 @@ pub(crate) fn push_maps<R: Files + AllocGlobal>(
         }
         is_there = is_there || is_own_there;
     }
-    if !is_there {
-        push_none(text, folder)?;
+    let (is_all_there, is_wrong) = push_there(rt, text, folder, None)?;
+    if is_wrong || is_there || is_all_there {
+        return Ok(is_wrong);
     }
-    Ok(!is_there)
+    push_none(text, folder)?;
+    Ok(true)
 }

@@ -242,6 +242,15 @@ fn push_short(text: &mut String, size: u64, wanted: usize, way: &str) -> Result<
     )
 }
 
+/// Says why the head of a device, which has `wanted` bytes, isn't read again: the device is too short, with the way out, or the read failed.
+fn push_unread(text: &mut String, size: u64, wanted: usize, way: &str) -> Result<(), AllocError> {
+    if size < wanted as u64 {
+        push_short(text, size, wanted, way)
+    } else {
+        text.push_str("  its head can't be read again\n")
+    }
+}
+
 /// Says why a device with a wide head doesn't open.
 fn push_wide<D: Disk>(
     alloc: Global,
@@ -251,7 +260,7 @@ fn push_wide<D: Disk>(
 ) -> Result<(), AllocError> {
     match bytes_at::<D, WIDE_HEAD_BYTES>(disk, 0) {
         Some(head) => push_behind(alloc, text, disk, HeadVersion::Wide, &head, fault),
-        None => push_short(
+        None => push_unread(
             text,
             disk.size(),
             WIDE_HEAD_BYTES,
@@ -286,7 +295,7 @@ pub fn push_fault<D: Disk>(
     fault: OpenFault,
 ) -> Result<(), AllocError> {
     let Some(front) = bytes_at::<D, NARROW_HEAD_BYTES>(disk, 0) else {
-        return push_short(
+        return push_unread(
             text,
             disk.size(),
             NARROW_HEAD_BYTES,

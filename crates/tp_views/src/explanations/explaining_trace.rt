@@ -11,7 +11,48 @@ use std::fmt::Write;
 use std::fs::Files;
 use tp_words::{ImageTrace, Shown, TraceLines};
 
-/// Says why the image of a node that is traced isn't read, or which rule it breaks: whether anything was said. Its links may be at work.
+/// Says why a file of a trace can't be read, if it can't: whether it can't.
+fn push_unread<R: Files + AllocGlobal>(
+    rt: &R,
+    text: &mut String,
+    path: &str,
+) -> Result<bool, AllocError> {
+    let bytes = read_again(rt, text, path)?;
+    Ok(bytes.is_none())
+}
+
+/// Says of the first file that can't be read whose bytes come in at a link why: whether there is one.
+fn push_inputs<R: Files + AllocGlobal>(
+    rt: &R,
+    text: &mut String,
+    trace: &ImageTrace,
+) -> Result<bool, AllocError> {
+    for file in trace.inputs.iter() {
+        if push_unread(rt, text, file.path.as_str())? {
+            return Ok(true);
+        }
+    }
+    Ok(false)
+}
+
+/// Says of the first file of a trace that can't be read why: whether there is one.
+fn push_files<R: Files + AllocGlobal>(
+    rt: &R,
+    text: &mut String,
+    trace: &ImageTrace,
+) -> Result<bool, AllocError> {
+    if push_unread(rt, text, trace.image.as_str())? {
+        return Ok(true);
+    }
+    if let Some(path) = &trace.map
+        && push_unread(rt, text, path.as_str())?
+    {
+        return Ok(true);
+    }
+    push_inputs(rt, text, trace)
+}
+
+/// Says which rule the image of a node that is traced breaks: whether anything was said. Its links may be at work.
 fn push_image<R: Files + AllocGlobal>(
     rt: &R,
     text: &mut String,
@@ -24,20 +65,6 @@ fn push_image<R: Files + AllocGlobal>(
         },
         None => Ok(true),
     }
-}
-
-/// Says of the first file that can't be read whose bytes come in at a link why: whether there is one.
-fn push_inputs<R: Files + AllocGlobal>(
-    rt: &R,
-    text: &mut String,
-    trace: &ImageTrace,
-) -> Result<bool, AllocError> {
-    for file in trace.inputs.iter() {
-        if read_again(rt, text, file.path.as_str())?.is_none() {
-            return Ok(true);
-        }
-    }
-    Ok(false)
 }
 
 /// Says that a place names no address, if one is asked for that names none: whether one is.
@@ -116,14 +143,14 @@ fn push_map<R: Files + AllocGlobal>(
     }
 }
 
-/// Says why an image wasn't traced.
+/// Says why an image wasn't traced. It checks in the order of the command: the files, the map, the places, the image.
 pub(crate) fn push_trace<R: Files + AllocGlobal>(
     rt: &R,
     text: &mut String,
     trace: &ImageTrace,
 ) -> Result<(), AllocError> {
-    let is_said = push_image(rt, text, trace.image.as_str())?
+    let is_said = push_files(rt, text, trace)?
         || push_map(rt, text, trace)?
-        || push_inputs(rt, text, trace)?;
+        || push_image(rt, text, trace.image.as_str())?;
     if is_said { Ok(()) } else { push_rest(text) }
 }

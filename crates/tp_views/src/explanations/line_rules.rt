@@ -206,7 +206,7 @@ fn name_rule<'a>(word: &'a [u8], name: &[u8]) -> Option<Broken<'a>> {
 /// Gives which rule about pages a word breaks; `None` if it breaks none.
 fn pages_rule(word: &[u8]) -> Option<Broken<'_>> {
     let is_decimal = word.iter().all(|byte| byte.is_ascii_digit());
-    if !is_decimal || word.first() == Some(&b'0') {
+    if !is_decimal || matches!(word, [b'0', _, ..]) {
         return by_word(word, PAGES_SPELT);
     }
     match text_of(word).parse::<usize>() {

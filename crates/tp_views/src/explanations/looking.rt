@@ -8,6 +8,24 @@ use std::{fs, io};
 use tp_disk::{Counted, NotedFile, RawFile};
 use tp_words::Shown;
 
+/// The way out of a full disk.
+const MAKE_ROOM: &str = "Make room on its disk, or name a path on another one.";
+
+/// The way out, for what the system may say of a path.
+const WAYS_OUT: &[(io::ErrorKind, &str)] = &[
+    (
+        io::ErrorKind::OutOfMemory,
+        "There is no memory left for all that is in it: is it the file that you mean?",
+    ),
+    (io::ErrorKind::StorageFull, MAKE_ROOM),
+    (io::ErrorKind::QuotaExceeded, MAKE_ROOM),
+    (
+        io::ErrorKind::FileTooLarge,
+        "The system allows no file of that length there: name a path on another disk, or look at ulimit -f.",
+    ),
+    (io::ErrorKind::IsADirectory, "It is a folder: name a file."),
+];
+
 /// Says what the system said of a path.
 pub fn push_error(text: &mut String, path: &str, error: &io::Error) -> Result<(), AllocError> {
     let shown = Shown::all(path);
@@ -16,19 +34,12 @@ pub fn push_error(text: &mut String, path: &str, error: &io::Error) -> Result<()
 
 /// Gives the way out, for what the system said of a path.
 fn way_out(kind: io::ErrorKind) -> &'static str {
-    match kind {
-        io::ErrorKind::OutOfMemory => {
-            "There is no memory left for all that is in it: is it the file that you mean?"
+    for (known, way) in WAYS_OUT {
+        if *known == kind {
+            return way;
         }
-        io::ErrorKind::StorageFull | io::ErrorKind::QuotaExceeded => {
-            "Make room on its disk, or name a path on another one."
-        }
-        io::ErrorKind::FileTooLarge => {
-            "The system allows no file of that length there: name a path on another disk, or look at ulimit -f."
-        }
-        io::ErrorKind::IsADirectory => "It is a folder: name a file.",
-        _ => "Look at the path, and at your rights to it.",
     }
+    "Look at the path, and at your rights to it."
 }
 
 /// Says what the system said of a path, and the way out.
