@@ -477,6 +477,37 @@ tpnet backup device copy --explain
 tpnet compact device --explain
 tpnet run device --stream --turns 9 --out 0=- --explain
 
+story slow
+# Standard output takes a byte a call, and each call before that is interrupted: all is printed. Where it takes none and names no fault, nothing is.
+text net.txt node a 4\nport h\nwire a.0 h\n
+image a.img
+tpnet format device net.txt . 16384
+copy device fresh
+shut slow
+tpnet recover device
+tpnet show device --json
+tpnet status device
+tpnet node device 0 --json
+tpnet waits device --explain
+tpnet check net.txt .
+tpnet try a.img --turns 4
+tpnet trace a.img --steps 2
+tpnet run device --turns 4 --workers 1 --quantum 16
+copy fresh device
+tpnet run device --stream --turns 4 --workers 1 --quantum 16 --out 0=-
+tpnet check --help >out
+starts out Reads
+shut none
+tpnet recover device
+tpnet node device 0 --json
+tpnet trace a.img --steps 2
+tpnet try a.img --turns 4 --explain
+tpnet check --help
+copy fresh device
+tpnet run device --turns 4 --workers 1 --quantum 16
+copy fresh device
+tpnet run device --stream --turns 4 --workers 1 --quantum 16 --out 0=-
+
 story stream
 # What run --stream refuses of its ends: what the system said, or the way out.
 text net.txt node a 4\nport h\nwire a.0 h\n

@@ -85,12 +85,14 @@ struct Done {
     err: Vec<u8>,
 }
 
-/// The reader of standard output: it keeps what comes, and then makes a file, if it is to; or it takes nothing.
+/// The reader of standard output: it keeps what comes, and then makes a file, if it is to. Or it takes nothing; or a byte at a time, each after a call
+/// that is interrupted.
 #[derive(Drop)]
 struct Reader<'a, R> {
     rt: &'a R,
     made: Option<&'a String>,
     refuses: Option<ErrorKind>,
+    was_interrupted: bool,
     bytes: Vec<u8>,
 }
 
@@ -105,14 +107,22 @@ fn make<R: Files>(rt: &R, file: &str) -> io::Result<()> {
 
 impl<'a, R: Files> Write for Reader<'a, R> {
     fn write(&mut self, buf: &[u8]) -> io::Result<usize> {
+        let mut taken = buf;
         if let Some(kind) = self.refuses {
-            return Err(io::Error::from(kind));
+            self.was_interrupted = !self.was_interrupted;
+            if kind == ErrorKind::WriteZero {
+                return Ok(0);
+            }
+            if kind != ErrorKind::Interrupted || self.was_interrupted {
+                return Err(io::Error::from(kind));
+            }
+            taken = buf.get(..1).unwrap_or(buf);
         }
-        self.bytes.extend_from_slice(buf)?;
+        self.bytes.extend_from_slice(taken)?;
         if let Some(file) = self.made {
             make(self.rt, file.as_str())?;
         }
-        Ok(buf.len())
+        Ok(taken.len())
     }
 
     fn flush(&mut self) -> io::Result<()> {
@@ -159,6 +169,7 @@ fn carry_out<
         rt,
         made: stage.made.as_ref(),
         refuses: stage.refuses,
+        was_interrupted: false,
         bytes: Vec::new(rt.alloc()),
     };
     let (other, mut steps) = (stage.holding.other(rt, &stage.rival), stage.looks.steps());
