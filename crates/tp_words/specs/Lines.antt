@@ -215,3 +215,8 @@ begins_help (word ∷ words) = is_word (codes "help") word || has_asking (word �
 -- The line asks for help: its command is `help`, or a word that asks is there, and no word `--` is before that.
 abbrev pub asks_help : List (String Global) → Bool
 asks_help words = begins_help (drop 1 words)
+
+-- the words after the program's name are those of `run`
+abbrev pub begins_run : List (String Global) → Bool
+begins_run [] = false
+begins_run (word ∷ rest) = is_word (codes "run") word

@@ -1,5 +1,7 @@
 //! What was typed, or is in a file, as a message shows it.
 
+ghost use Rattle.std.specs.Prelude.{◌≡◌, ◌-◌, ◌^◌};
+
 use std::alloc::{AllocError, Global};
 use std::fmt;
 
@@ -28,7 +30,9 @@ fn write_character<W: fmt::Write>(f: &mut fmt::Formatter<W>, character: char) ->
 
 impl<'a> Shown<'a> {
     /// All of a text.
-    pub fn all(text: &'a str) -> Shown<'a> {
+    pub fn all(text: &'a str) -> Shown<'a>
+        ensures { (result.text.now ≡ text.now) × (result.most ≡ 2 ^ 64 - 1) }
+    {
         Shown {
             text,
             most: usize::MAX,
@@ -36,7 +40,9 @@ impl<'a> Shown<'a> {
     }
 
     /// The first characters of a text, at most `most`, and two dots if it has more.
-    pub fn front(text: &'a str, most: usize) -> Shown<'a> {
+    pub fn front(text: &'a str, most: usize) -> Shown<'a>
+        ensures { (result.text.now ≡ text.now) × (result.most ≡ most) }
+    {
         Shown { text, most }
     }
 }

@@ -1,10 +1,10 @@
 //! The words that `clap` takes with `run --stream`.
 
 ghost use Rattle.std.specs.Prelude.{◌≡◌, true, IfSome, drop};
-ghost use Rattle.tp_words.specs.Lines.{is_used};
+ghost use Rattle.tp_words.specs.Lines.{begins_run, is_used};
 
 use crate::forms::{EXPLAIN, NO_EXPLAIN, WAIT_LOCK, WRITTEN};
-use crate::numbers::after_first;
+use crate::numbers::{after_first, is_word};
 use crate::rules::is_used;
 use crate::words::{Form, Word};
 
@@ -55,12 +55,21 @@ const STREAM_OPTIONS: &[&str] = &[
     "progress-every",
 ];
 
-/// Whether the words are those of `run`.
-pub fn are_of_run(words: &[String]) -> bool {
-    match words.get(1) {
-        Some(word) => word.as_str() == "run",
+/// Whether the words after the program's name begin with `run`.
+fn begins_run(words: &[String]) -> bool
+    ensures { result ≡ begins_run words.now }
+{
+    match words.first() {
+        Some(word) => is_word(word, "run"),
         None => false,
     }
+}
+
+/// Whether the words are those of `run`.
+pub fn are_of_run(words: &[String]) -> bool
+    ensures { result ≡ begins_run (drop 1 words.now) }
+{
+    begins_run(after_first(words))
 }
 
 /// An option among the words of `run` that it has with `--stream` alone.
