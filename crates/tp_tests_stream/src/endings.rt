@@ -2,7 +2,7 @@
 
 ghost use Rattle.std.specs.Prelude.{None};
 
-use crate::devices::{DEAF, ECHO, HALTS, LETTERS, ONE, formatted};
+use crate::devices::{DEAF, ECHO, HALTS, LETTERS, ONE, TWO, formatted};
 use crate::players::{Asked, Asks, NO_INPUT, QUIET, nobody, play};
 use crate::steps::{Fresh, PLAIN, Step, are_steps_on};
 use std::alloc::{AllocError, Global};
@@ -227,10 +227,21 @@ fn silent_streams(alloc: Global, has: u64) -> Result<Streams<MemSink, Silent>, A
     Ok(Streams { outputs, inputs })
 }
 
-/// Whether a stream of a node that takes nothing ends for this reason, if its input falls silent and it is asked to stop in the end.
+/// The streams of two ports. The input of the first one has as many bytes as its port holds, and that of the second one none yet.
+fn full_and_late_streams(alloc: Global) -> Result<Streams<MemSink, Silent>, AllocError> {
+    let mut streams = silent_streams(alloc, 4_096)?;
+    streams
+        .outputs
+        .push(Output::new(1, None, MemSink::empty(alloc)))?;
+    streams.inputs.push(Input::new(1, Silent { has: 0 }))?;
+    Ok(streams)
+}
+
+/// Whether a stream of nodes that take nothing ends for this reason, if its inputs fall silent and it is asked to stop in the end.
 fn ends_silently<R: Threads + Wait + Abort + Sync>(
     rt: &R,
-    has: u64,
+    text: &[u8],
+    streams: &mut Streams<MemSink, Silent>,
     until_quiet: bool,
     why: Ending,
 ) -> Result<bool, Fail>
@@ -244,15 +255,14 @@ where
         until_asked: true,
         ..QUIET
     };
-    let mut device = formatted(alloc, ONE, DEAF, 262_144)?;
-    let mut streams = silent_streams(alloc, has)?;
+    let mut device = formatted(alloc, text, DEAF, 262_144)?;
     let mut asks = Asks::behind(Some(LOOKS));
     let done = play(
         rt,
         alloc,
         task,
         &mut device,
-        &mut streams,
+        streams,
         &mut nobody(),
         &mut asks,
     );
@@ -274,7 +284,16 @@ const SILENT: &[(u64, bool, Ending)] = &[
 #[test]
 fn a_full_port_waits_for_no_input(rt: HostRuntime) -> Result<(), Fail> {
     for (has, until_quiet, why) in SILENT {
-        assert!(rt; ends_silently(&rt, *has, *until_quiet, *why)?);
+        let mut streams = silent_streams(rt.alloc(), *has)?;
+        assert!(rt; ends_silently(&rt, ONE, &mut streams, *until_quiet, *why)?);
     }
+    Ok(())
+}
+
+/// An input that is late is waited for though that of another port, before it, has nothing more to give.
+#[test]
+fn a_late_input_is_waited_for_beside_a_full_port(rt: HostRuntime) -> Result<(), Fail> {
+    let mut streams = full_and_late_streams(rt.alloc())?;
+    assert!(rt; ends_silently(&rt, TWO, &mut streams, true, Ending::Stopped)?);
     Ok(())
 }

@@ -31,6 +31,8 @@ mod full;
 #[cfg(test)]
 mod growth;
 #[cfg(test)]
+mod names;
+#[cfg(test)]
 mod opened;
 #[cfg(test)]
 mod outputs;

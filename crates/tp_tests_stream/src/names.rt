@@ -1,0 +1,92 @@
+//! By which words the faults of a compaction and of a stream are printed.
+
+use std::alloc::Global;
+use std::fmt::{Display, Write};
+use tp_recover::Unopened;
+use tp_run::CompactFault;
+use tp_stream::StreamFault;
+
+/// How each fault of a compaction is printed; that of a device which isn't opened by the opening's name.
+const COMPACTIONS: &[(CompactFault, &str)] = &[
+    (CompactFault::Opening(Unopened::ReadFailed), "ReadFailed"),
+    (CompactFault::NoGeneration, "JournalFull"),
+    (CompactFault::DeviceFailed, "DeviceFailed"),
+    (CompactFault::NotWhole, "NotWhole"),
+    (CompactFault::Memory, "Memory"),
+];
+
+/// How each fault of a stream is printed, with its port and its numbers.
+const STREAMS: &[(StreamFault, &str)] = &[
+    (StreamFault::Opening(Unopened::ReadFailed), "ReadFailed"),
+    (StreamFault::Spare, "Spare"),
+    (StreamFault::Port(3), "Port 3"),
+    (StreamFault::Unnamed(7), "Unnamed 7"),
+    (
+        StreamFault::Short {
+            port: 2,
+            has: 40,
+            from: 501,
+        },
+        "Short 2 40 501",
+    ),
+    (
+        StreamFault::Long {
+            port: 3,
+            has: 600,
+            upto: 51,
+        },
+        "Long 3 600 51",
+    ),
+    (
+        StreamFault::Gone {
+            port: 4,
+            have: 70,
+            confirmed: 801,
+        },
+        "Gone 4 70 801",
+    ),
+    (
+        StreamFault::NotShown {
+            port: 5,
+            have: 900,
+            shown: 81,
+        },
+        "NotShown 5 900 81",
+    ),
+    (
+        StreamFault::ShortInput {
+            port: 6,
+            has: 10,
+            accepted: 201,
+        },
+        "ShortInput 6 10 201",
+    ),
+    (StreamFault::InputFailed(1), "ReadFailed"),
+    (StreamFault::OutputFailed(1), "DeviceFailed"),
+    (StreamFault::FlushFailed, "DeviceFailed"),
+    (StreamFault::NotStored, "DeviceFailed"),
+    (StreamFault::JournalFull, "JournalFull"),
+    (StreamFault::Memory, "Memory"),
+];
+
+/// Whether a fault is printed so.
+fn is_printed<F: Display>(alloc: Global, fault: &F, name: &str) -> bool {
+    let mut text = String::new(alloc);
+    write!(text, "{fault}").is_ok() && text.as_str() == name
+}
+
+#[test]
+fn faults_of_a_compaction_are_printed_by_their_names(rt: HostRuntime) {
+    for (fault, name) in COMPACTIONS {
+        let printed = is_printed(rt.alloc(), fault, name);
+        assert!(rt; printed, "{name}");
+    }
+}
+
+#[test]
+fn faults_of_a_stream_are_printed_by_their_names(rt: HostRuntime) {
+    for (fault, name) in STREAMS {
+        let printed = is_printed(rt.alloc(), fault, name);
+        assert!(rt; printed, "{name}");
+    }
+}
