@@ -1,12 +1,12 @@
 -- Which answer a device and a job give.
 use Rattle.std.proofs.Common.{◌≡◌, ◌<◌, ℕ, Bool, true, false, List, length, Option, Some, None, Result, Ok, Err, refl, subst}
-use Rattle.std.specs.Prelude.{IfErr}
-use Rattle.tp_run.proofs.Lower.{OpenFault, is_full_for_snapshot, Opened}
+use Rattle.std.specs.Prelude.{IfErr, nat_lt}
+use Rattle.tp_run.proofs.Lower.{ltb-true, Topology, OpenFault, is_full_for_snapshot, Opened}
 use Rattle.tp_run.specs.Answered.{AnswerFor, FaultFor, OpenedFor}
 use Rattle.tp_run.specs.Compacted.{CompactAnswer, SaysLast}
 use Rattle.tp_run.specs.Faults.{ComesBegun}
 use Rattle.tp_run.specs.Input.{rest_at}
-use Rattle.tp_run.specs.Made.{fault_by, job_fault}
+use Rattle.tp_run.specs.Made.{fault_by, has_pages, job_fault}
 use Rattle.tp_run.specs.Outset.{outset_in}
 use Rattle.tp_run.specs.declared.compacting.Compaction.{Compaction}
 use Rattle.tp_run.specs.declared.compacting.CompactFault.{CompactFault}
@@ -21,6 +21,15 @@ none_of None never = refl
 none_of (Some x) never = absurd (never x refl)
 
 -- ## What is wrong with a job
+
+there_is : (has_pages has_port : Bool) → fault_by has_pages has_port ≡ None → has_port ≡ true
+there_is false has_port none = cc
+there_is true false none = cc
+there_is true true none = refl
+
+-- if nothing is, its port is there
+pub port_there : (spare port : ℕ) (t : Topology) → job_fault spare port t ≡ None → port < t.ports
+port_there spare port t none = ltb-true port t.ports (there_is (has_pages spare t) (nat_lt port t.ports) none)
 
 -- it is one of two things
 pub wrong_is : (P : RunFault → Type 0) (has_pages has_port : Bool) (fault : RunFault) → fault_by has_pages has_port ≡ Some fault → P Spare → P Port → P fault

@@ -1,5 +1,5 @@
 -- What proofs here name of the crates below.
-pub use Rattle.std.proofs.lemmas.Bool.{le-leb, le-ltb, lt-leb, true≢false}
+pub use Rattle.std.proofs.lemmas.Bool.{le-leb, le-ltb, lt-leb, ltb-true, true≢false}
 pub use Rattle.std.proofs.lemmas.List.{drop_all, length-map, length-take, length-take-le, take-append-le, take-take, take_all, take_rest}
 pub use Rattle.std.proofs.lemmas.List.Sums.{count_by-le-length, sum_by-cons}
 pub use Rattle.std.proofs.lemmas.Result.{IfOk-weaker}

@@ -24,6 +24,8 @@ pub use Rattle.tp_model.specs.declared.entry.Entry.TheVariants.{Confirm, HostIn}
 pub use Rattle.tp_model.specs.declared.limits.TheConstants.{MAX_STEPS}
 pub use Rattle.tp_model.specs.declared.opening.OpenFault.{OpenFault}
 pub use Rattle.tp_law_machine.specs.NodeOfBytes.{IsNodeOfBytes}
+pub use Rattle.tp_node.specs.FromImage.{HasFrames}
+pub use Rattle.tp_node.specs.NodeContents.{NodeContents}
 pub use Rattle.tp_node.specs.declared.rest.Rest.{Rest}
 pub use Rattle.tp_book.specs.Acts.{confirm_entries}
 pub use Rattle.tp_book.specs.Book.{BookValue, next_in_book}

@@ -290,7 +290,7 @@ pub fn compact<D: Disk, R: Wait>(
     let topology = topology_of(&opened);
     let _areas = opened.head().areas();
     let store = opened.store(disk);
-    let Ok((parts, raiser, _)) = parts_of(alloc, opened, 0, 0) else {
+    let Ok((parts, raiser, ..)) = parts_of(alloc, opened, 0, 0) else {
         return (store.into_disk(), Err(CompactFault::Memory));
     };
     compact_parts::<Brand, D, R>(rt, alloc, known, first, topology, parts, raiser, store)

@@ -8,6 +8,7 @@ ghost use Rattle.tp_run.specs.Failures.{failures_after, has_failed};
 ghost use Rattle.tp_run.specs.Faults.{ComesBegun, IsSilent, IsUnbegun};
 ghost use Rattle.tp_run.specs.HandedOver.{HandedOver};
 ghost use Rattle.tp_run.specs.Input.{input_slips, rest_at};
+ghost use Rattle.tp_run.specs.Made.{HaveFrames};
 ghost use Rattle.tp_run.specs.Outset.{outset_in};
 ghost use Rattle.tp_run.specs.Ran.{History, Ran, RanInto, Settled};
 ghost use Rattle.tp_run.specs.Rested.{LeadsToRest, RestsAt};
@@ -29,7 +30,7 @@ use tp_area::Store;
 use tp_disk::Disk;
 use tp_flush::{Flusher, stored_slips_are_recovered, topology_of};
 use tp_net::Topology;
-use tp_node::Rest;
+use tp_node::{Node, Rest};
 use tp_ready::Raiser;
 use tp_recover::{Opened, open};
 use tp_shared::{HostKey, Naming, NoGate, Parts};
@@ -93,8 +94,8 @@ fn use_up<J: Naming + Send + Sync, D: Disk + Send + Drop, O: Outlet<D>, R: Threa
     (flusher, done, rest)
 }
 
-/// Runs the network of an opened device, from the parts that were made of it. Fails with `Memory` if the threads' seats find no room; else as `serve`
-/// fails.
+/// Runs the network of an opened device, from the parts that were made of it. `_nodes` are the nodes in them: each has the spare frames that the job
+/// asks for. Fails with `Memory` if the threads' seats find no room; else as `serve` fails.
 #[inline(never)]
 fn run_parts<
     J: Naming + Send + Sync,
@@ -110,6 +111,7 @@ fn run_parts<
     parts: Parts,
     raiser: Raiser,
     outset: Outset,
+    _nodes: Snapshot<Vec<Node>>,
     store: Store<D>,
     input: &[u8],
     out: &mut O,
@@ -123,6 +125,7 @@ fn run_parts<
     requires cut { IsCut t414_ends opened.value.head.topology opened.value.base opened.value.cut }
     requires bytes { AllByRecursion IsNodeOfBytes opened.value.cut.nodes }
     requires outset { outset ≡ outset_in opened.value job.port }
+    requires frames { HaveFrames job.spare _nodes.value.items }
     requires place { store.place ≡ place_at opened.value }
     requires topology { topology ≡ opened.value.head.topology }
     requires network { J.start ≡ opened.value.cut }
@@ -225,10 +228,10 @@ pub fn run<D: Disk + Send + Drop, O: Outlet<D>, R: Threads + Wait + Sync>(
     let topology = topology_of(&opened);
     let _areas = opened.head().areas();
     let store = opened.store(disk);
-    let Ok((parts, raiser, outset)) = parts_of(alloc, opened, job.spare, job.port) else {
+    let Ok((parts, raiser, outset, nodes)) = parts_of(alloc, opened, job.spare, job.port) else {
         return (store.into_disk(), Err(RunFault::Memory), Rest::Busy);
     };
     run_parts::<Brand, D, O, R>(
-        rt, alloc, job, known, topology, parts, raiser, outset, store, input, out,
+        rt, alloc, job, known, topology, parts, raiser, outset, nodes, store, input, out,
     )
 }

@@ -1,10 +1,15 @@
 //! What workers and the flusher's thread tell each other.
 
-ghost use Rattle.std.specs.Prelude.{◌≡◌, ◌<◌, ◌≤◌, ◌+◌, ◌-◌, ◌^◌};
+ghost use Rattle.std.specs.Prelude.{◌≡◌, ◌<◌, ◌≤◌, ◌+◌, ◌-◌, ◌^◌, true, false, Ok, IfOk, OnErr};
+ghost use Rattle.tp_run.specs.Lower.{after_begin, begin_refusal, IsAnswer, is_due};
 
+use crate::beginning::{begin_where_due, missing_in};
+use std::alloc::Global;
 use std::sync::Wait;
 use std::sync::atomic::{AtomicBool, AtomicU64, Ordering};
 use std::time::Duration;
+use tp_book::Refusal;
+use tp_shared::{Locked, Naming};
 
 /// How many turns are drawn until the entries are counted anew, and the flusher has a turn to make though none was made.
 const LOOK_TURNS: u64 = 64;
@@ -71,13 +76,6 @@ impl Watch {
         }
     }
 
-    /// How many entries since the kept cut begin a snapshot.
-    pub(crate) fn every(&self) -> u64
-        ensures { result ≡ self.now.every }
-    {
-        self.every
-    }
-
     /// Takes one of the turns that are left; `false` if none is. With the last one of [`LOOK_TURNS`] the flusher has a turn to make: a snapshot may
     /// go on without an entry. It wakes nobody; but if no turn is left, it wakes the workers that rest.
     pub(crate) fn draw(&self) -> bool {
@@ -126,9 +124,24 @@ impl Watch {
         Some(made)
     }
 
-    /// Notes that `missing` entries were missing for a snapshot after `made` were made.
-    pub(crate) fn set_due(&self, made: u64, missing: u64) {
+    /// Begins a snapshot, under the book's lock, if as many entries were made since the kept cut as begin one. `made` were made in all: it notes after
+    /// how many it is worth checking again. Answers, or fails, as `begin_where_due` does.
+    pub(crate) fn begin<J: Naming>(
+        &self,
+        held: &mut Locked<J>,
+        alloc: Global,
+        made: u64,
+    ) -> Result<bool, Refusal>
+        ensures due { IfOk result (λ begun. begun ≡ is_due self.now.every held.old.book) }
+        ensures begun { result ≡ Ok true → held.new ≡ record held.old { book = after_begin held.old.book } }
+        ensures early { result ≡ Ok false → held.new ≡ held.old }
+        ensures refused { is_due self.now.every held.old.book ≡ true → IsAnswer (begin_refusal held.old.book) result }
+        ensures err { OnErr result (held.new ≡ held.old) }
+    {
+        let begun = begin_where_due(held, alloc, self.every);
+        let missing = missing_in(held, self.every);
         self.due.store(due_behind(made, missing), Ordering::SeqCst);
+        begun
     }
 
     /// Makes a worker count the entries since the kept cut before its next turn.

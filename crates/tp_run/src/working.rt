@@ -5,7 +5,6 @@ ghost use Rattle.tp_work.specs.Heeds.{is_heeded};
 ghost use Rattle.tp_run.specs.Worked.{Worked};
 
 use crate::aside::Aside;
-use crate::beginning::{begin_where_due, missing_in};
 use crate::watch::Watch;
 use std::alloc::Global;
 use std::sync::Wait;
@@ -54,8 +53,7 @@ fn begin<J: Naming, R: Wait>(rt: &R, alloc: Global, shared: &Shared<J>, watch: &
     };
     let mut held = shared.book().lock(rt);
     held.known();
-    let _begun = begin_where_due(&mut held, alloc, watch.every());
-    watch.set_due(made, missing_in(&held, watch.every()));
+    let _begun = watch.begin(&mut held, alloc, made);
 }
 
 /// Makes turns until none is left, or until one is refused because the store has failed. Other refused turns count as turns. It never waits for the

@@ -8,7 +8,7 @@ use Rattle.tp_run.specs.Failures.{failures_after, has_failed, is_failure}
 use Rattle.tp_run.specs.Made.{has_pages, job_fault}
 use Rattle.tp_run.specs.Prints.{ComesSilent}
 use Rattle.tp_run.specs.Ran.{Ran, RanInto}
-use Rattle.tp_run.proofs.Answered.{answered, none_of, wrong_is, wrong_told}
+use Rattle.tp_run.proofs.Answered.{answered, none_of, port_there, wrong_is, wrong_told}
 use Rattle.tp_run.proofs.Failures.{opening_counted, uncounted}
 use Rattle.tp_run.proofs.Faults.{begun_written}
 use Rattle.tp_run.proofs.Made.{shape_is}
@@ -109,6 +109,13 @@ returns-in-Some-clause-answer g c k =
     let job = c.args.job in
     let said = subst (λ (t : Topology). Some c.in-Some.fault ≡ job_fault job.spare job.port t) (c.topology.ensures.value ∙ ap (λ (h : Head). h.topology) c.head.ensures) c.in-Some.ensures in
     wrong_told _ job c.args.input.now c.in-Ok.opened (has_pages job.spare c.in-Ok.opened.head.topology) (nat_lt job.port c.in-Ok.opened.head.topology.ports) c.in-Some.fault (c.in-Ok.ensures.is k) refl (sym said)
+
+pub run_parts-requires-clause-port : goal.run_parts-requires-clause-port
+run_parts-requires-clause-port g c κs within =
+    let job = c.args.job in
+    let right = sym c.job_fault.ensures ∙ none_of c.job_fault.result c.in_default.not-Some in
+    let has = subst (λ (t : Topology). job_fault job.spare job.port t ≡ None) (c.topology.ensures.value ∙ ap (λ (h : Head). h.topology) c.head.ensures) right in
+    subst (λ (o : Opened). job.port < o.head.topology.ports) (sym c.of-known.ensures) (port_there job.spare job.port c.in-Ok.opened.head.topology has)
 
 pub returns-in_default-parts_of-clause-answer : goal.returns-in_default-parts_of-clause-answer
 returns-in_default-parts_of-clause-answer g c k =
