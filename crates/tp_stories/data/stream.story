@@ -225,10 +225,10 @@ copy fresh device
 tpnet run device --stream --quantum=64 --workers 1 --until-quiet --out 0=- --in 0=given --explain
 copy fresh device
 tpnet run device --stream --quantum=64 --workers 1 --out 0=- --in 0=given --explain
-copy fresh device
-fill more 10000 61
+image a.img
+tpnet format device net.txt . 65536
 reader-makes device.stop
-tpnet run device --stream --quantum=64 --out 0=- --in 0=more --explain >out 2>err
+tpnet run device --stream --quantum=64 --workers 1 --out 0=- --explain 2>err
 ends err  stopped\n
 reader-makes
 image c.img 40 30

@@ -60,13 +60,24 @@ fn untouched(stream: StandardStream) -> Behind
     }
 }
 
-/// Says that this was all: word by word as what a command says, which is waited for, as what it prints, before which it is waited for, and as what is
-/// left to be written in the end. Answers whether the first word was written once it was waited for.
+/// Says bytes one by one. Answers whether each was taken.
+fn say_slowly<E: Write>(said: &mut E, bytes: &[u8]) -> bool {
+    let mut is_taken = true;
+    for byte in bytes {
+        is_taken = said.write_all(&[*byte]).is_ok() && is_taken;
+    }
+    is_taken
+}
+
+/// Says that this was all: first as what a command says, which is waited for; then so that it isn't waited for; then as what a command prints, which
+/// comes after that; and the rest is left to be written in the end. Answers whether all was taken, and what was waited for was written then.
 fn tell_end<E: Write, O: Write>(said: &mut E, unwritten: &Backlog, printed: &mut O) -> bool {
-    let is_said = said.write_all(b"That").is_ok() && said.flush().is_ok();
-    let is_written = unwritten.is_counted() && unwritten.is_empty();
-    let is_said = is_said && said.write_all(b" was").is_ok();
-    let is_printed = printed.write_all(b" all").is_ok();
+    let is_said = say_slowly(said, b"That was all of the stories.");
+    let is_written = said.flush().is_ok() && unwritten.is_counted() && unwritten.is_empty();
+    let is_said = say_slowly(said, b" It was said byte by byte,") && is_said;
+    let is_printed = printed
+        .write_all(b" and this was printed behind it")
+        .is_ok();
     is_said && is_written && is_printed && said.write_all(b".\n").is_ok()
 }
 
