@@ -297,6 +297,10 @@ text net.txt node a 4\nport h\nwire a.3 h.1\n
 tpnet check net.txt . --explain
 text net.txt # h is the host\nnode a 4\nport h\nwire a.0 h.0\n
 tpnet check net.txt . --explain
+text net.txt node ab 4\nport a\nwire ab.0 a.1\n
+tpnet check net.txt . --explain
+text net.txt node a 4\nport ab\nwire a.0 ab.1\n
+tpnet check net.txt . --explain
 # And what is wrong by one byte.
 text net.txt node aB 4\nport h\n
 tpnet check net.txt . --explain
@@ -462,6 +466,11 @@ fill some 368 6D
 tpnet run two --turns 0 --port 1 --in some --explain
 fill some 5000 6D
 tpnet run two --turns 0 --port 1 --in some --explain
+# If it isn't known how many bytes come, each way is told.
+text net.txt node a 4\nport h\nwire a.0 h\n
+image a.img
+tpnet format least net.txt . 13034
+tpnet run least --turns 4 --workers 1 --in /dev/null --explain
 
 story unprinted
 # Standard output can't be written: what was done is told, where nothing else is wrong.
@@ -475,10 +484,13 @@ tpnet format least net.txt . 13034 --explain
 tpnet show device --explain
 tpnet backup device copy --explain
 tpnet compact device --explain
+copy device other
+tpnet run other --turns 4 --workers 1 --quantum 16 --explain
 tpnet run device --stream --turns 9 --out 0=- --explain
 
 story slow
-# Standard output takes a byte a call, and each call before that is interrupted: all is printed. Where it takes none and names no fault, nothing is.
+# Standard output and standard error take a byte a call, and each call before that is interrupted: all is printed. Where standard output takes none and
+# names no fault, nothing is.
 text net.txt node a 4\nport h\nwire a.0 h\n
 image a.img
 tpnet format device net.txt . 16384
@@ -497,6 +509,7 @@ copy fresh device
 tpnet run device --stream --turns 4 --workers 1 --quantum 16 --out 0=-
 tpnet check --help >out
 starts out Reads
+tpnet recover net.txt --explain
 shut none
 tpnet recover device
 tpnet node device 0 --json
@@ -702,6 +715,28 @@ tpnet try a.img --turns 4 --explain
 image a.img
 set a.img 141 01
 tpnet try a.img --turns 4 --explain
+# At the edges: lengths and pages, Wptr by one bit, the first and the last input end.
+image a.img
+set a.img 2 00 04
+tpnet try a.img --turns 4 --explain
+set a.img 2 01 04
+tpnet try a.img --turns 4 --explain
+image a.img
+join b.img a.img page
+tpnet try b.img --turns 4 --explain
+cut a.img 172
+tpnet try a.img --turns 4 --explain
+cut a.img 171
+tpnet try a.img --turns 4 --explain
+image a.img
+set a.img 8 02
+tpnet try a.img --turns 4 --explain
+image a.img
+set a.img 157 01
+tpnet try a.img --turns 4 --explain
+image a.img
+set a.img 108 01
+tpnet try a.img --turns 4 --explain
 
 story places
 # Where a damaged record stands: in the second area, and of which port a line is that a port sends.
@@ -814,6 +849,9 @@ set device 57 81
 tpnet recover device --explain
 copy fresh device
 set device 57 05
+tpnet recover device --explain
+copy fresh device
+set device 57 05 00 00 02
 tpnet recover device --explain
 copy fresh device
 set device 59 80

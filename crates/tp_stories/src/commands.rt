@@ -133,15 +133,21 @@ impl<'a, R: Files> Write for Reader<'a, R> {
 /// The most bytes that standard error takes at once.
 const MOST_SAID: usize = 20;
 
-/// The reader of standard error: it keeps what comes, and takes few bytes at once.
+/// The reader of standard error: it keeps what comes, and takes few bytes at once; or a byte, after a call that is interrupted.
 #[derive(Drop)]
 struct Hearer {
+    is_slow: bool,
+    was_interrupted: bool,
     bytes: Vec<u8>,
 }
 
 impl Write for Hearer {
     fn write(&mut self, buf: &[u8]) -> io::Result<usize> {
-        let few = buf.len().min(MOST_SAID);
+        self.was_interrupted = self.is_slow && !self.was_interrupted;
+        if self.was_interrupted {
+            return Err(io::Error::from(ErrorKind::Interrupted));
+        }
+        let few = buf.len().min(if self.is_slow { 1 } else { MOST_SAID });
         self.bytes.extend_from_slice(&buf[..few])?;
         Ok(few)
     }
@@ -163,6 +169,8 @@ fn carry_out<
         was_asked: false,
     };
     let mut err = Hearer {
+        is_slow: stage.refuses == Some(ErrorKind::Interrupted),
+        was_interrupted: false,
         bytes: Vec::new(rt.alloc()),
     };
     let mut out = Reader {

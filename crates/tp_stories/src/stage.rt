@@ -126,8 +126,8 @@ impl Stage {
         Ok(())
     }
 
-    /// Says that standard output takes nothing in the commands after this line, as on a full disk or once its reader has gone, or without a fault; or a
-    /// byte at a time, each after a call that is interrupted. With no word it takes all.
+    /// Says that standard output takes nothing in the commands after this line, as on a full disk or once its reader has gone, or without a fault; or
+    /// that it and standard error take a byte at a time, each after a call that is interrupted. With no word it takes all.
     pub(crate) fn shut(&mut self, word: &str) -> io::Result<()> {
         self.refuses = match word {
             "" => None,
