@@ -137,6 +137,12 @@ tpnet run device --turns 65 --workers 1 --quantum 16 --port 7 --every 4294967295
 tpnet recover device --workers 3
 tpnet compact device
 tpnet recover device
+# The last node halts at its second instruction.
+image n63.img 40 30
+cut n63.img 1048748
+set n63.img 2 00 04
+tpnet format device net.txt . 1729750
+tpnet run device --turns 65 --workers 1 --quantum 16 --every 4294967295 --explain
 
 story wide
 # 17 nodes are the first network that needs a wide head: where the fields of it stand, and the front of its first area, which has turns.
