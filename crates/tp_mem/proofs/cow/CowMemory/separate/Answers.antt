@@ -1,5 +1,5 @@
 use Rattle.std.proofs.Common.{◌≡◌, ◌∷◌, get_or, false, ap, sym, ◌∙◌, arith}
-use Rattle.tp_mem.proofs.Lower.{word_ranges}
+use Rattle.tp_model.specs.SharedPages.{word_ranges}
 use Rattle.tp_mem.specs.Copies.{Paged}
 use Rattle.tp_mem.proofs.Paged.{at_page, with_shared}
 use Rattle.tp_mem.proofs.Touches.{shared_from-untouched, wanted_from-untouched}
