@@ -145,6 +145,7 @@ tpnet trace absent --map bad.map --in 0=none --explain
 tpnet trace text.img --map bad.map --in 0=none --explain
 tpnet trace text.img --map bad.map --until stop --explain
 tpnet trace text.img --map low.map --until stop --watch low --explain
+tpnet trace text.img --map low.map --until stop --watch send --explain
 tpnet trace text.img --map low.map --until low --watch stop --explain
 tpnet trace text.img --map low.map --until start --watch low --explain
 tpnet trace text.img --map low.map --until low --watch start --explain
