@@ -1,8 +1,8 @@
 //! The rights to format a device, and to write a copy. No other crate can make one.
 //!
 //! A function that never returns owes no `ensures`. So what it writes before is ruled out by what `Disk::write_at` asks: that devices of this
-//! type may be written. A caller above this crate knows it, for any type of devices, only under a right. The right to the steps of a store is made in
-//! `tp_flush` alone, in the same way.
+//! type may be written. A caller above this crate knows it, for any type of devices, only under a right. `tp_flush` alone makes the right to a store's
+//! steps.
 
 ghost use Rattle.std.specs.Prelude.{◌≡◌, true};
 ghost use Rattle.tp_area.specs.Rights.{Formats, Copies};
