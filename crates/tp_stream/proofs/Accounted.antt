@@ -1,9 +1,9 @@
 -- Who made each entry.
 use Rattle.std.proofs.Common.{◌≡◌, ℕ, zero, suc, ◌<◌, inl, inr, List, [], ◌∷◌, ◌++◌, get_or, length, drop, map, refl, sym, ap, subst, ◌∙◌, arith, None, Some, Result, Ok, Err}
 use Rattle.std.specs.Prelude.{All, flat_map, MatchResult, Bool, true, ◌==◌, ◌&&◌}
-use Rattle.tp_stream.proofs.Lower.{and_parts, eqb-true, Network, NodeState, Entry, next_in_book, item_of, shown, AreTakes, CountedTakes, TookAlone, Gained, handed, NodeTurned, Stage, NodeTurn, Refused, Turned, TurnFault, Empty, Turn, AreAll}
+use Rattle.tp_stream.proofs.Lower.{and_parts, eqb-true, Network, NodeState, Entry, next_in_book, item_of, shown, AreTakes, CountedTakes, TookAlone, Gained, handed, NodeTurned, Stage, NodeTurn, Refused, Turned, TurnFault, Empty, Turn, AreAll, BrokenOff}
 use Rattle.tp_work.specs.declared.fault.TurnFault.TheVariants.{JournalFull, StoreBroken, Memory}
-use Rattle.tp_stream.specs.Accounted.{Accounted, AreAllSlips, MadeByTurns, broken, idle, joined, turned}
+use Rattle.tp_stream.specs.Accounted.{Accounted, AreAllSlips, MadeByOne, MadeByTurns, broken, idle, joined, turned}
 
 -- ## Slips of turns
 
@@ -21,37 +21,46 @@ pub node_made : (network : Network NodeState) (number quantum : ℕ) (turn : Nod
     → MadeByTurns network old → MadeByTurns network new
 node_made network number quantum turn old new there did made = turned quantum (record { process = number; takes = turn.taken; ran = Some turn.ran }) old new made (there, did)
 
+pub node_one : (network : Network NodeState) (number quantum : ℕ) (turn : NodeTurn) (old new : List (ℕ × Entry)) → number < length network.nodes → NodeTurned network number quantum turn old new
+    → MadeByOne network quantum old new
+node_one network number quantum turn old new there did = inl (record { process = number; takes = turn.taken; ran = Some turn.ran }, (there, did))
+
+pub node_broke : (network : Network NodeState) (number : ℕ) (old new : List (ℕ × Entry)) → number < length network.nodes → Gained (TookAlone network number) old new → BrokenOff network old new
+node_broke network number old new there G = record {
+  process = number;
+  there = omega (arith, there);
+  took = record {
+    next = G.next;
+    entries = G.entries;
+    are = elim G.are [
+      | inl takes ↦ inl takes
+      | inr once ↦ inr (there, once)
+    ];
+    seat = G.seat;
+    below = G.below;
+  };
+}
+
 pub node_broken : (network : Network NodeState) (number : ℕ) (old new : List (ℕ × Entry)) → number < length network.nodes → Gained (TookAlone network number) old new → MadeByTurns network old
     → MadeByTurns network new
-node_broken network number old new there G made =
-    broken old new made
-    (record {
-      process = number;
-      there = omega (arith, there);
-      took = record {
-        next = G.next;
-        entries = G.entries;
-        are = elim G.are [
-          | inl takes ↦ inl takes
-          | inr once ↦ inr (there, once)
-        ];
-        seat = G.seat;
-        below = G.below;
-      };
-    })
+node_broken network number old new there G made = broken old new made (node_broke network number old new there G)
 
 -- a turn of the host
 pub host_made : (network : Network NodeState) (takes : ℕ) (old new : List (ℕ × Entry)) → Gained (CountedTakes network (length network.nodes) takes) old new → MadeByTurns network old → MadeByTurns network new
 host_made network takes old new G made = turned 0 (record { process = length network.nodes; takes = takes; ran = None }) old new made (refl, G)
 
+pub host_one : (network : Network NodeState) (quantum takes : ℕ) (old new : List (ℕ × Entry)) → Gained (CountedTakes network (length network.nodes) takes) old new → MadeByOne network quantum old new
+host_one network quantum takes old new G = inl (record { process = length network.nodes; takes = takes; ran = None }, (refl, G))
+
+pub host_broke : (network : Network NodeState) (old new : List (ℕ × Entry)) → Gained (AreTakes network (length network.nodes)) old new → BrokenOff network old new
+host_broke network old new G = record {
+  process = length network.nodes;
+  there = omega arith;
+  took = record { next = G.next; entries = G.entries; are = inl G.are; seat = G.seat; below = G.below };
+}
+
 pub host_broken : (network : Network NodeState) (old new : List (ℕ × Entry)) → Gained (AreTakes network (length network.nodes)) old new → MadeByTurns network old → MadeByTurns network new
-host_broken network old new G made =
-    broken old new made
-    (record {
-      process = length network.nodes;
-      there = omega arith;
-      took = record { next = G.next; entries = G.entries; are = inl G.are; seat = G.seat; below = G.below };
-    })
+host_broken network old new G made = broken old new made (host_broke network old new G)
 
 -- turns at several seats
 pub all_made : {S : Type 0} (network : Network NodeState) (slips : S → List (ℕ × Entry)) (seats : List S) → All (λ seat. MadeByTurns network (slips seat)) seats → MadeByTurns network (flat_map slips seats)

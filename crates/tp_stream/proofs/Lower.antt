@@ -51,7 +51,7 @@ pub use Rattle.tp_node.specs.declared.run.Why.TheVariants.{Full, Idle, NoFrame}
 pub use Rattle.tp_book.specs.Acts.{confirm_entries}
 pub use Rattle.tp_book.specs.Book.{BookValue, count_of_nodes, next_in_book, outputs_of, reserved, world_of}
 pub use Rattle.tp_book.specs.Counted.{AreCounted}
-pub use Rattle.tp_book.specs.Host.{accepted_of, port_in, shown_from, shown_of, shown_upto_of, with_confirmed}
+pub use Rattle.tp_book.specs.Host.{accepted_of, port_in, room_of, shown_from, shown_of, shown_upto_of, with_confirmed}
 pub use Rattle.tp_book.specs.Needs.{has_recorded_in}
 pub use Rattle.tp_book.specs.Opened.{now_of, opened_book}
 pub use Rattle.tp_book.specs.Ports.{fresh_value, opened_port}
@@ -80,7 +80,7 @@ pub use Rattle.tp_shared.specs.TurnsMade.{HostTurnMade, TurnMade}
 pub use Rattle.tp_shared.specs.declared.node_turn.NodeTurn.{NodeTurn}
 pub use Rattle.tp_work.specs.Answers.{RefusesFor}
 pub use Rattle.tp_work.specs.Outputs.{confirm_fault}
-pub use Rattle.tp_work.specs.Turns.{Refused, Turned}
+pub use Rattle.tp_work.specs.Turns.{BrokenOff, Refused, Turned}
 pub use Rattle.tp_work.specs.declared.fault.TurnFault.{TurnFault}
 pub use Rattle.tp_work.specs.declared.fault.TurnFault.TheVariants.{Empty}
 pub use Rattle.tp_work.specs.declared.host_fault.ConfirmFault.{ConfirmFault}

@@ -1,5 +1,5 @@
 -- Who made each entry that a stream journalled.
-use Rattle.std.specs.Prelude.{◌≡◌, ℕ, List, [], ◌++◌, map, drop}
+use Rattle.std.specs.Prelude.{◌≡◌, ◌⊎◌, ℕ, List, [], ◌++◌, map, drop}
 use Rattle.tp_stream.specs.Lower.{Network, NodeState, Entry, handed, BrokenOff, Turned, Turn, AreAll}
 
 -- These slips were made by turns of nodes and of the host, and by nothing else. A turn that was done made those of its entries, and a turn that broke
@@ -9,6 +9,10 @@ pub data MadeByTurns (network : Network NodeState) : List (ℕ × Entry) → Typ
   turned : (quantum : ℕ) (turn : Turn) (old new : List (ℕ × Entry)) → MadeByTurns network old → Turned network quantum turn old new → MadeByTurns network new
   broken : (old new : List (ℕ × Entry)) → MadeByTurns network old → BrokenOff network old new → MadeByTurns network new
   joined : (some others : List (ℕ × Entry)) → MadeByTurns network some → MadeByTurns network others → MadeByTurns network (some ++ others)
+
+-- One turn of at most `quantum` steps made those of these slips that are new. It was done, or broke off.
+abbrev pub MadeByOne : Network NodeState → ℕ → List (ℕ × Entry) → List (ℕ × Entry) → Type 0
+MadeByOne network quantum old new = ((turn : Turn) × Turned network quantum turn old new) ⊎ BrokenOff network old new
 
 -- Each entry of the journal from the number `first` on was made once, by the host or by a turn: there is one slip of it, and no slip of anything else.
 -- The host made just those that hand in bytes or confirm outputs, in order. `next` is the number after the last entry.

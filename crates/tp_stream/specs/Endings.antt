@@ -1,5 +1,5 @@
 -- When a stream is over, by its turns and by what the steps of its outputs and inputs came to after them.
-use Rattle.std.specs.Prelude.{◌≡◌, ◌⊎◌, ◌<◌, ◌≤◌, ℕ, Bool, ◌&&◌, ◌||◌, true, false, nat_le, nat_lt, if◌then◌else◌, Option, None, Some, is_none}
+use Rattle.std.specs.Prelude.{◌≡◌, ◌⊎◌, ◌<◌, ◌≤◌, ℕ, Bool, ◌&&◌, ◌||◌, true, false, nat_le, nat_lt, if◌then◌else◌, Option, None, Some, is_none, not}
 use Rattle.tp_stream.specs.Lower.{Ending, Quiet, BoundReached, Gone, Halted, Stopped}
 use Rattle.tp_stream.specs.declared.task.Task.{Task}
 use Rattle.tp_stream.specs.declared.turns.Turns.{Turns}
@@ -65,3 +65,9 @@ ending_of task turns nodes asked pumped over =
     else if is_nothing_left turns nodes pumped over && is_none task.turns then Some Gone
     else if is_bound_reached task turns then Some BoundReached
     else None
+
+-- whether nothing is left to do but to wait for input, after steps that came to this; `over` says whether no input is left
+abbrev pub lacks_input : Turns → ℕ → Pumped → Bool → Bool
+lacks_input turns nodes Nothing over = nat_lt nodes turns.idle && not over
+lacks_input turns nodes Moved over = false
+lacks_input turns nodes TakerGone over = false

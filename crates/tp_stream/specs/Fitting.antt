@@ -1,6 +1,6 @@
--- Whether a network can be run as a task asks, given the outputs and inputs that are named.
-use Rattle.std.specs.Prelude.{◌≡◌, ◌<◌, ℕ, ◌+◌, ◌*◌, ◌==◌, Bool, true, false, nat_le, nat_lt, if◌then◌else◌, List, [], ◌∷◌, map, Option, Some, None, Result, Ok, Err}
-use Rattle.tp_stream.specs.Lower.{list_any, has_wire, Topology, node_count, OutputValue, Ended}
+-- Whether a network can be run as a task asks, given the outputs and inputs that are named, and the nodes that are made for it.
+use Rattle.std.specs.Prelude.{◌≡◌, ◌<◌, ℕ, ◌+◌, ◌*◌, ◌==◌, Bool, true, false, nat_le, nat_lt, if◌then◌else◌, List, [], ◌∷◌, map, Option, Some, None, Result, Ok, Err, slice_get}
+use Rattle.tp_stream.specs.Lower.{HasFrames, NodeContents, list_any, has_wire, Topology, node_count, OutputValue, Ended}
 use Rattle.tp_stream.specs.declared.task.Task.{Task}
 use Rattle.tp_stream.specs.declared.fault.StreamFault.{StreamFault}
 use Rattle.tp_stream.specs.declared.fault.StreamFault.TheVariants.{Opening, Spare, Port as Absent, Unnamed, Short, Long, Gone, NotShown, ShortInput, InputFailed, OutputFailed, FlushFailed, NotStored, JournalFull, Memory}
@@ -92,3 +92,7 @@ SaysUnfit task t outputs inputs Memory = Fits task t outputs inputs
 abbrev pub SaysFit : Task → Topology → List OutputValue → List ℕ → Result Ended StreamFault → Type 0
 SaysFit task t outputs inputs (Ok ended) = Fits task t outputs inputs
 SaysFit task t outputs inputs (Err fault) = SaysUnfit task t outputs inputs fault
+
+-- each of these nodes has `spare` frames for pages that it writes while it is frozen, but at most as many as it has pages
+abbrev pub HaveFrames : ℕ → List NodeContents → Type 0
+HaveFrames spare nodes = (i : ℕ) (node : NodeContents) → slice_get nodes i ≡ Some node → HasFrames spare node

@@ -23,6 +23,8 @@ pub use Rattle.tp_model.specs.declared.entry.Entry.TheVariants.{Confirm, HostIn,
 pub use Rattle.tp_model.specs.declared.limits.TheConstants.{MAX_HELD, MAX_PORTS, MAX_STEPS, NUMBER_LIMIT}
 pub use Rattle.tp_model.specs.declared.opening.OpenFault.{OpenFault}
 pub use Rattle.tp_law_machine.specs.NodeOfBytes.{IsNodeOfBytes}
+pub use Rattle.tp_node.specs.FromImage.{HasFrames}
+pub use Rattle.tp_node.specs.NodeContents.{NodeContents}
 pub use Rattle.tp_node.specs.declared.run.Why.{Why}
 pub use Rattle.tp_node.specs.declared.run.Why.TheVariants.{Full, Idle, NoFrame}
 pub use Rattle.tp_node.specs.declared.standing.Standing.{Standing}
@@ -31,11 +33,11 @@ pub use Rattle.tp_book.specs.Acts.{confirm_entries}
 pub use Rattle.tp_book.specs.Book.{BookValue, count_of_nodes, next_in_book, outputs_of, reserved, world_of}
 pub use Rattle.tp_book.specs.Counted.{AreCounted}
 pub use Rattle.tp_book.specs.Host.{accepted_of, after_confirm, after_inputs, port_in, room_of, shown_from, shown_upto_of}
-pub use Rattle.tp_book.specs.Marked.{after_begin}
+pub use Rattle.tp_book.specs.Marked.{after_begin, begin_refusal}
 pub use Rattle.tp_book.specs.Needs.{has_recorded_in}
 pub use Rattle.tp_book.specs.Opened.{IsWellOpen, opened_book}
 pub use Rattle.tp_book.specs.Ports.{fresh_value}
-pub use Rattle.tp_book.specs.Refusals.{is_journal_full}
+pub use Rattle.tp_book.specs.Refusals.{IsAnswer, is_journal_full}
 pub use Rattle.tp_book.specs.declared.refusal.Refusal.{Refusal}
 pub use Rattle.tp_turn.specs.declared.take.TheConstants.{TAKES, TURN_ENTRIES}
 pub use Rattle.tp_disk.specs.Reads.{AreTrue, WereTrue}
@@ -76,7 +78,7 @@ pub use Rattle.tp_stream_files.specs.Notices.{HasCome, InputBegins, NodeStopped,
 pub use Rattle.tp_stream_files.specs.Outputs.{Given, IsOfPort, OutputValue, WasPutSafely, given_of}
 pub use Rattle.tp_stream_files.specs.declared.ending.Ended.{Ended}
 pub use Rattle.tp_stream_files.specs.declared.ending.Ending.{Ending}
-pub use Rattle.tp_stream_files.specs.declared.ending.Ending.TheVariants.{Gone, Halted, Quiet, Stopped, Stopped as AskedTo, Turns, Turns as BoundReached}
+pub use Rattle.tp_stream_files.specs.declared.ending.Ending.TheVariants.{Gone, Gone as Left, Halted, Quiet, Stopped, Stopped as AskedTo, Turns, Turns as BoundReached}
 pub use Rattle.tp_stream_files.specs.declared.ending.Stopped.TheVariants.{Waits}
 pub use Rattle.tp_stream_files.specs.declared.listener.Progress.{Progress}
 pub use Rattle.tp_stream_files.specs.declared.sink.SinkFault.{SinkFault}

@@ -1,6 +1,6 @@
 -- What the steps and turns of a stream come to.
-use Rattle.std.specs.Prelude.{◌≡◌, ◌⊎◌, ◌<◌, ℕ, Bool, true, false, Option, Some, None, Result, Ok, Err, nat_eq, if◌then◌else◌}
-use Rattle.tp_stream.specs.Lower.{BookValue, after_confirm, shown_upto_of, Standing, NodeHalted, NodeWaits, Free, Ending, Waits, SinkFault, Failed, OutputValue, Refusal}
+use Rattle.std.specs.Prelude.{◌≡◌, ◌⊎◌, ◌<◌, ◌≤◌, ℕ, Bool, ◌&&◌, length, true, false, Option, Some, None, Result, Ok, Err, nat_eq, if◌then◌else◌}
+use Rattle.tp_stream.specs.Lower.{BookValue, after_confirm, shown_upto_of, Standing, NodeHalted, NodeWaits, Free, Ending, Waits, SinkFault, Failed, OutputValue, Refusal, Quiet, Left, MAX_HELD, port_in, room_of}
 use Rattle.tp_stream_files.specs.declared.ending.Stopped.{Stopped}
 use Rattle.tp_stream_files.specs.declared.ending.Stopped.TheVariants.{Halted}
 use Rattle.tp_stream_files.specs.declared.sink.SinkFault.TheVariants.{Gone}
@@ -126,3 +126,13 @@ stopped_of (NodeHalted fault at) stuck = Some (Halted fault at)
 stopped_of NodeWaits true = Some Waits
 stopped_of NodeWaits false = None
 stopped_of Free stuck = None
+
+-- Each byte of input that a port has accepted was taken by its node.
+abbrev pub HasTakenAll : BookValue → Type 0
+HasTakenAll b = (p : ℕ) → p < length b.state.ports → MAX_HELD ≤ room_of (port_in b p)
+
+-- whether a stream that ends for this reason leaves input that no node takes any more, if nothing was left to do and such input is there
+abbrev pub is_stuck : Ending → Bool → Bool → Bool
+is_stuck Quiet rests pending = rests && pending
+is_stuck Left rests pending = rests && pending
+is_stuck _ rests pending = false

@@ -1,6 +1,6 @@
 //! Workers, and the flusher's turns while they work.
 
-ghost use Rattle.std.specs.Prelude.{◌≡◌, ◌≤◌, ◌*◌, ◌-◌, ◌^◌, min, All, Some, None, IfOk, IfErr, IfSome};
+ghost use Rattle.std.specs.Prelude.{◌≡◌, ◌≤◌, ◌*◌, ◌-◌, ◌/◌, ◌^◌, max, min, All, Some, None, IfOk, IfErr, IfSome};
 ghost use Rattle.tp_stream.specs.Lower.{AreTrue, WereTrue, Resting, Began, IsSameProcess, Walked};
 ghost use Rattle.tp_stream.specs.Accounted.{MadeByTurns};
 ghost use Rattle.tp_stream.specs.FailedEnds.{NamesNoEnd};
@@ -15,7 +15,7 @@ use crate::flushing::flush;
 use crate::ground::Ground;
 use crate::lent::Lent;
 use crate::pace::Pace;
-use crate::shift::Shift;
+use crate::shift::{Drawn, Shift};
 use crate::task::Task;
 use crate::turns::Turns;
 use std::alloc::Global;
@@ -32,8 +32,14 @@ use tp_work::{Net, Seat};
 /// for a round.
 const SHIFT: u64 = 1024;
 
-/// Makes a turn that was drawn in this shift.
-fn one<J: Naming, R: Wait>(rt: &R, net: &Net<J, NoGate>, shift: &Shift, seat: &mut Seat<J>)
+/// Makes the turn that was drawn in this shift.
+fn one<J: Naming, R: Wait>(
+    rt: &R,
+    net: &Net<J, NoGate>,
+    shift: &Shift,
+    _drawn: Drawn,
+    seat: &mut Seat<J>,
+)
     requires queue { seat.old.hand.of ≡ Some net.now.queue }
     requires made { MadeByTurns J.start seat.old.slips }
     ensures queue { seat.new.hand.of ≡ Some net.now.queue }
@@ -52,10 +58,10 @@ fn work<J: Naming, R: Wait>(rt: &R, net: &Net<J, NoGate>, shift: &Shift, seat: &
     ensures made { MadeByTurns J.start seat.new.slips }
 {
     for _ in 0..u32::MAX {
-        if !shift.draw() {
+        let Some(drawn) = shift.draw() else {
             return;
-        }
-        one(rt, net, shift, seat);
+        };
+        one(rt, net, shift, drawn, seat);
     }
 }
 
@@ -147,10 +153,13 @@ fn help<J: Naming, R: Wait>(
     ensures made { MadeByTurns J.start seat.new.slips }
 {
     for _ in 0..u32::MAX {
-        if shift.is_due(seen) || !shift.draw() {
+        if shift.is_due(seen) {
             return;
         }
-        one(rt, net, shift, seat);
+        let Some(drawn) = shift.draw() else {
+            return;
+        };
+        one(rt, net, shift, drawn, seat);
     }
 }
 
@@ -213,6 +222,7 @@ fn flush_beside<J: Naming, D: Disk, R: Wait>(
 fn turns_in<J: Naming>(held: &Locked<J>, pace: Pace, most: u64) -> u64
     ensures room { result * (pace.need - pace.confirms) ≤ free_of pace.rooms.journal held.now.book - pace.confirms }
     ensures most { result ≤ most }
+    ensures exact { result ≡ min ((free_of pace.rooms.journal held.now.book - pace.confirms) / max (pace.need - pace.confirms) 1) most }
 {
     let free = pace.rooms.free(held.book());
     let turn = u64::from(pace.need.saturating_sub(pace.confirms)).max(1);

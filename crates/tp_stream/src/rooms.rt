@@ -71,7 +71,8 @@ impl Rooms {
 
 /// Whether each port has room for one more byte of output.
 pub(crate) fn have_place(book: &Book) -> bool
-    ensures { result ≡ true → HavePlace book.now }
+    ensures place { result ≡ true → HavePlace book.now }
+    ensures exact { HavePlace book.now → result ≡ true }
 {
     book.known();
     for port in 0..book.ports() {

@@ -1,8 +1,8 @@
 //! Rounds: turns of all processes of the network, one after the other.
 
-ghost use Rattle.std.specs.Prelude.{◌≡◌, ◌↔◌, ◌<◌, ◌≤◌, length, min, true, false, Ok, IfOk, IfErr, OnOk, OnErr, ◌⊎◌, ◌+◌, ◌-◌, ◌*◌, ◌^◌};
-ghost use Rattle.tp_stream.specs.Lower.{MAX_STEPS, after_begin, is_due};
-ghost use Rattle.tp_stream.specs.Accounted.{MadeByTurns};
+ghost use Rattle.std.specs.Prelude.{◌≡◌, ◌↔◌, ◌<◌, ◌≤◌, ℕ, length, min, true, false, Ok, IfOk, IfErr, OnOk, OnErr, ◌⊎◌, ◌+◌, ◌-◌, ◌*◌, ◌^◌};
+ghost use Rattle.tp_stream.specs.Lower.{MAX_STEPS, after_begin, begin_refusal, IsAnswer, is_due};
+ghost use Rattle.tp_stream.specs.Accounted.{MadeByOne, MadeByTurns};
 ghost use Rattle.tp_stream.specs.Outcomes.{turn_fault_of};
 ghost use Rattle.tp_stream.specs.Quiet.{HadNothing, HasNoStep, HaveRested, HostRests, IsStill, NodeRests};
 ghost use Rattle.tp_stream.specs.Rooms.{HavePlace, StaysAhead, has_room_for};
@@ -66,6 +66,7 @@ fn node_turn<J: Naming, R: Wait>(
     requires there { number < length J.start.nodes }
     requires quantum { quantum ≤ MAX_STEPS }
     ensures rests { IfOk result (λ did. did.nothing ≡ true → NodeRests J.start number) }
+    ensures turn { MadeByOne J.start quantum seat.old seat.new }
     ensures made { MadeByTurns J.start seat.old → MadeByTurns J.start seat.new }
 {
     match shared.turn(rt, &NoGate, seat, &mut Sights::new(), runs, number, quantum) {
@@ -81,6 +82,7 @@ fn host_turn<J: Naming, R: Wait>(
     seat: &mut Seat<J>,
 ) -> Result<Did, Refusal>
     ensures rests { IfOk result (λ did. did.nothing ≡ true → HostRests J.start) }
+    ensures turn { (quantum : ℕ) → MadeByOne J.start quantum seat.old seat.new }
     ensures made { MadeByTurns J.start seat.old → MadeByTurns J.start seat.new }
 {
     match shared.host_turn(rt, &NoGate, seat, &mut Sights::new()) {
@@ -105,6 +107,7 @@ pub(crate) fn make_turn<J: Naming, R: Wait>(
 ) -> Result<Did, Refusal>
     requires { quantum ≤ MAX_STEPS }
     ensures had { IfOk result (λ did. did.nothing ≡ true → HadNothing J.start whose) }
+    ensures turn { MadeByOne J.start quantum seat.old seat.new }
     ensures made { MadeByTurns J.start seat.old → MadeByTurns J.start seat.new }
 {
     if whose >= shared.nodes() {
@@ -115,18 +118,25 @@ pub(crate) fn make_turn<J: Naming, R: Wait>(
 }
 
 /// Begins a snapshot, under the book's lock, if `every` entries or more have been made since the kept cut and each port has room for one more byte.
-/// Answers whether one was begun. Ignores a refusal.
-pub(crate) fn begin_where_due<J: Naming>(held: &mut Locked<J>, alloc: Global, every: u64) -> bool
-    ensures due { result ≡ true → is_due every held.old.book ≡ true }
-    ensures place { result ≡ true → HavePlace held.old.book }
-    ensures begun { result ≡ true → held.new ≡ record held.old { book = after_begin held.old.book } }
-    ensures same { result ≡ false → held.new ≡ held.old }
+/// Answers whether it did. Fails for the reason that the book gives, or with `Memory`, and then changes nothing.
+pub(crate) fn begin_where_due<J: Naming>(
+    held: &mut Locked<J>,
+    alloc: Global,
+    every: u64,
+) -> Result<bool, Refusal>
+    ensures due { result ≡ Ok true → is_due every held.old.book ≡ true }
+    ensures place { result ≡ Ok true → HavePlace held.old.book }
+    ensures begun { result ≡ Ok true → held.new ≡ record held.old { book = after_begin held.old.book } }
+    ensures early { result ≡ Ok false → HavePlace held.old.book → is_due every held.old.book ≡ false }
+    ensures same { result ≡ Ok false → held.new ≡ held.old }
+    ensures refused { OnErr result (IsAnswer (begin_refusal held.old.book) result × (held.new ≡ held.old)) }
 {
     let made = held.book().next().saturating_sub(held.book().base());
     if made < every || !have_place(held.book()) {
-        return false;
+        return Ok(false);
     }
-    held.begin_snapshot(alloc).is_ok()
+    held.begin_snapshot(alloc)?;
+    Ok(true)
 }
 
 /// For how many turns at most one look at the book is enough.
@@ -203,7 +213,7 @@ fn look<J: Naming, R: Wait>(rt: &R, alloc: Global, shared: &Shared<J>, pace: Pac
     ensures { result.is_running ≡ false → IsStill J.start }
 {
     let mut held = shared.book().lock(rt);
-    let _begun = begin_where_due(&mut held, alloc, pace.every);
+    let _begun = pace.begin(&mut held, alloc);
     look_at(&held, pace)
 }
 
@@ -237,6 +247,7 @@ fn one_turn<J: Naming, R: Wait>(
     ensures busy { turns.new.is_busy ≡ turns.old.is_busy }
     ensures err { OnErr result (turns.new ≡ turns.old) }
     ensures begun { IfErr result CameOfTurns }
+    ensures turn { MadeByOne J.start pace.task.quantum seat.old seat.new }
     ensures turns { MadeByTurns J.start seat.old → MadeByTurns J.start seat.new }
 {
     let nodes = shared.nodes();

@@ -1,9 +1,10 @@
 //! What a stream does with a network and its flusher.
 
-ghost use Rattle.std.specs.Prelude.{map, ◌≡◌, ℕ, ◌≤◌, List, length, vec_len, All, Some, IfOk, IfSome, IfErr, OnOk};
+ghost use Rattle.std.specs.Prelude.{map, ◌≡◌, ℕ, ◌≤◌, List, length, max, vec_len, All, Some, IfOk, IfSome, IfErr, OnOk};
 ghost use Rattle.tp_stream.specs.Lower.{AreTrue, list_all, OutputValue, Began, is_over, given_input};
 ghost use Rattle.tp_stream.specs.Accounted.{Accounted, MadeByTurns};
 ghost use Rattle.tp_stream.specs.Confirmed.{AreConfirmsPut};
+ghost use Rattle.tp_stream.specs.Endings.{lacks_input};
 ghost use Rattle.tp_stream.specs.FailedEnds.{NamesEnd};
 ghost use Rattle.tp_stream.specs.Failures.{answer_failed};
 ghost use Rattle.tp_stream.specs.HandedFrom.{FedFrom};
@@ -107,7 +108,9 @@ impl<J: Naming> Going<J> {
 
 /// Whether nothing is left to do but to wait for input, after steps that came to `pumped`. `over` says whether no input is left that its port may
 /// take.
-fn lacks_input(turns: &Turns, nodes: u8, pumped: Pumped, over: bool) -> bool {
+fn lacks_input(turns: &Turns, nodes: u8, pumped: Pumped, over: bool) -> bool
+    ensures { result ≡ lacks_input turns.now nodes pumped over }
+{
     pumped == Pumped::Nothing && turns.is_quiet(nodes) && !over
 }
 
@@ -451,6 +454,7 @@ pub(crate) fn serve<
     requires noted { AllNoted J.start streams.old.outputs.items going.seat going.steps going.host }
     requires seats { All (λ seat. seat.hand.of ≡ Some ground.net.now.queue) seats.items }
     requires made { All (λ seat. MadeByTurns J.start seat.slips) seats.items }
+    requires quantum { ground.net.now.quantum ≡ max ground.pace.task.quantum 1 }
     requires team { (ground.pace.workers ≡ team_of ground.pace.task.workers (length J.start.nodes)) × (vec_len seats ≡ ground.pace.workers) }
     ensures served { ServedOn J.formatted J.before (answer_failed result.0) flusher.old flusher.new streams.old.outputs.items streams.new.outputs.items }
     ensures why { IfOk result.0 (λ ended. IsWhyEnded J.start ground.entry.pace.task ended.why) }

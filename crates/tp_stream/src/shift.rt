@@ -50,6 +50,12 @@ pub(crate) struct Shift {
     refusal: AtomicU64,
 }
 
+/// The right to make one turn of the open shift. Only [`Shift::draw`] gives it, and the turn takes it.
+#[derive(Drop)]
+pub(crate) struct Drawn {
+    _turn: (),
+}
+
 /// Says whether a process had nothing to do in a turn, and whether it is a node that has halted.
 fn seen_of(turn: &Turn) -> (bool, bool)
     ensures nothing { result.0 ≡ true ↔ HadNoWork turn.now }
@@ -136,17 +142,19 @@ impl Shift {
         made
     }
 
-    /// Takes one of the turns that are left. Answers `false` if none is left, or if the shift is to end.
-    pub(crate) fn draw(&self) -> bool {
-        !self.is_over.load(Ordering::SeqCst)
-            && self
-                .left
-                .fetch_update(
-                    Ordering::SeqCst,
-                    Ordering::SeqCst,
-                    |left| left.checked_sub(1),
-                )
-                .is_ok()
+    /// Takes one of the turns that are left; `None` if none is left, or if the shift is to end.
+    pub(crate) fn draw(&self) -> Option<Drawn> {
+        if self.is_over.load(Ordering::SeqCst) {
+            return None;
+        }
+        match self.left.fetch_update(
+            Ordering::SeqCst,
+            Ordering::SeqCst,
+            |left| left.checked_sub(1),
+        ) {
+            Ok(_) => Some(Drawn { _turn: () }),
+            Err(_) => None,
+        }
     }
 
     /// Whether no more turns are made in this shift.

@@ -1,7 +1,7 @@
 //! Nodes that have stopped.
 
-ghost use Rattle.std.specs.Prelude.{◌≡◌, length};
-ghost use Rattle.tp_stream.specs.Outcomes.{stopped_of};
+ghost use Rattle.std.specs.Prelude.{◌≡◌, false, length};
+ghost use Rattle.tp_stream.specs.Outcomes.{HasTakenAll, is_stuck, stopped_of};
 ghost use Rattle.tp_stream.specs.Told.{ToldLater};
 
 use std::sync::Wait;
@@ -22,7 +22,10 @@ pub(crate) fn find_halted<J: Naming, R: Wait>(rt: &R, shared: &Shared<J>) -> boo
 }
 
 /// Whether a port has input that no node has taken.
-fn has_pending(book: &Book) -> bool {
+fn has_pending(book: &Book) -> bool
+    ensures none { result ≡ false → HasTakenAll book.now }
+    ensures exact { HasTakenAll book.now → result ≡ false }
+{
     book.known();
     for port in 0..book.ports() {
         if book.room(port as u8) < MAX_HELD {
@@ -32,15 +35,21 @@ fn has_pending(book: &Book) -> bool {
     false
 }
 
-/// Whether a stream that ended for this reason left input that no node takes any more. `rests` says whether nothing was left to do. A stream may also
-/// end because whoever read its output has gone; then a node might have gone on, so the input isn't stuck.
-fn is_stuck<J: Naming, R: Wait>(rt: &R, shared: &Shared<J>, why: Ending, rests: bool) -> bool {
+/// Takes the book's lock, and finds whether a port has such input.
+fn find_pending<J: Naming, R: Wait>(rt: &R, shared: &Shared<J>) -> bool {
+    let held = shared.book().lock(rt);
+    has_pending(held.book())
+}
+
+/// Whether a stream that ended for this reason left input that no node takes any more. `rests` says whether nothing was left to do, and `pending`
+/// whether a port has input that no node has taken. A stream may also end because whoever read its output has gone; then a node might have gone on,
+/// so the input isn't stuck.
+fn is_stuck(why: Ending, rests: bool, pending: bool) -> bool
+    ensures { result ≡ is_stuck why rests pending }
+{
     match why {
-        Ending::Quiet | Ending::Gone if rests => {
-            let held = shared.book().lock(rt);
-            has_pending(held.book())
-        }
-        Ending::Quiet | Ending::Gone | Ending::Turns | Ending::Halted | Ending::Stopped => false,
+        Ending::Quiet | Ending::Gone => rests && pending,
+        Ending::Turns | Ending::Halted | Ending::Stopped => false,
     }
 }
 
@@ -65,7 +74,7 @@ pub(crate) fn tell_stopped<J: Naming, L: Listener, R: Wait>(
 )
     ensures { ToldLater (length J.start.nodes) (L.told listener.old) (L.told listener.new) }
 {
-    let is_stuck = is_stuck(rt, shared, why, rests);
+    let is_stuck = is_stuck(why, rests, find_pending(rt, shared));
     for node in 0..shared.nodes() {
         if let Some(how) = stopped(shared.standing(rt, node), is_stuck) {
             listener.stopped(node, how);

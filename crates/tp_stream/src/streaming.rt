@@ -4,7 +4,7 @@ ghost use Rattle.std.specs.Prelude.{◌≡◌, ◌⊎◌, ◌++◌, ◌≤◌, f
 ghost use Rattle.tp_stream.specs.Lower.{AreTrue, WereTrue, AllByRecursion, list_all, journal_of, place_at, Began, IsSynced, IsNodeOfBytes, is_roomy, room, t414_ends, OpenedValue, next_of, verdict, IsCut, node_count, MAX_STEPS, LeavesNothingNew, IsMadeOf, History, Names, given_input, is_over, given_of, Unopened, Steps};
 ghost use Rattle.tp_stream.specs.FailedEnds.{NamesEnd};
 ghost use Rattle.tp_stream.specs.Failures.{StreamAnswer, answer_failed, calls_failed};
-ghost use Rattle.tp_stream.specs.Fitting.{SaysFit};
+ghost use Rattle.tp_stream.specs.Fitting.{HaveFrames, SaysFit};
 ghost use Rattle.tp_stream.specs.Put.{ServedInto, StreamedInto};
 ghost use Rattle.tp_stream.specs.Looks.{HaveLooked};
 ghost use Rattle.tp_stream.specs.Over.{LeavesNoInput};
@@ -33,7 +33,7 @@ use tp_area::Store;
 use tp_disk::Disk;
 use tp_flush::{Flusher, topology_of};
 use tp_net::Topology;
-use tp_node::Runs;
+use tp_node::{Node, Runs};
 use tp_ready::Raiser;
 use tp_recover::{Opened, open};
 use tp_shared::{Naming, NoGate, Parts};
@@ -73,13 +73,14 @@ fn pace_of(task: Task, topology: &Topology, area: u64) -> Pace
 }
 
 /// The parts of a device that opened, for a stream: what was read, its topology, the parts of its network, the raiser of its mark, the known runs of
-/// the calling thread, and its store.
+/// the calling thread, the nodes as they were made, and its store.
 struct Device<D: Disk> {
     opened: Snapshot<Opened>,
     topology: Topology,
     parts: Parts,
     raiser: Raiser,
     runs: Runs,
+    nodes: Snapshot<Vec<Node>>,
     store: Store<D>,
 }
 
@@ -106,6 +107,7 @@ fn stream_parts<
     requires names { Names J.roll J.first J.start J.node J.mark J.flusher J.host J.sights J.room J.accepted device.parts }
     requires stands { IsMadeOf device.opened.value device.parts device.raiser }
     requires bound { device.parts.book.room ≡ Some (room device.opened.value.head.topology device.opened.value.head.areas.length) }
+    requires frames { HaveFrames task.spare device.nodes.value.items }
     requires network { J.start ≡ device.opened.value.cut }
     requires cut { IsCut t414_ends device.opened.value.head.topology device.opened.value.base device.opened.value.cut }
     requires bytes { AllByRecursion IsNodeOfBytes device.opened.value.cut.nodes }
@@ -135,6 +137,7 @@ fn stream_parts<
         parts,
         raiser,
         runs,
+        nodes: _nodes,
         store,
     } = device;
     let pace = pace_of(task, &topology, store.place.areas.length);
@@ -248,7 +251,9 @@ pub fn stream<
     let topology = topology_of(&opened);
     let _areas = opened.head().areas();
     let store = opened.store(disk);
-    let (parts, raiser, runs) = match parts_of(alloc, opened, task.spare, streams, listener) {
+    let (parts, raiser, runs, nodes) = match parts_of(
+        alloc, opened, task.spare, streams, listener,
+    ) {
         Ok(made) => made,
         Err(fault) => return (store.into_disk(), Err(fault)),
     };
@@ -262,6 +267,7 @@ pub fn stream<
             parts,
             raiser,
             runs,
+            nodes,
             store,
         },
         streams,

@@ -23,7 +23,7 @@ pub(crate) struct Did {
 impl Did {
     /// What a process did in a turn that was refused: no step, though it had something to do.
     pub(crate) fn refused() -> Did
-        ensures { result.nothing ≡ false }
+        ensures { (result.nothing ≡ false) × (result.halted ≡ false) × (result.steps ≡ 0) }
     {
         Did {
             nothing: false,
@@ -68,6 +68,10 @@ impl Turns {
     pub(crate) fn new(has_halted: bool) -> Turns
         ensures whose { result.whose ≡ 0 }
         ensures idle { result.idle ≡ 0 }
+        ensures made { result.made ≡ 0 }
+        ensures halted { result.has_halted ≡ has_halted }
+        ensures round { (result.beside ≡ 0) × (result.round ≡ 0) × (result.steps ≡ 0) × (result.is_busy ≡ false) }
+        ensures room { (result.is_full ≡ false) × (result.settled ≡ 0) }
     {
         Turns {
             made: 0,
@@ -89,6 +93,7 @@ impl Turns {
         ensures idle { self.new.idle ≡ 0 }
         ensures made { self.new.made ≡ self.old.made }
         ensures busy { self.new.is_busy ≡ self.old.is_busy }
+        ensures exact { self.new ≡ record self.old { idle = 0; beside = 0; round = 0; steps = 0; is_full = false } }
     {
         self.idle = 0;
         self.beside = 0;
@@ -104,6 +109,7 @@ impl Turns {
         ensures idle { self.new.idle ≡ self.old.idle }
         ensures made { self.new.made ≡ self.old.made }
         ensures busy { self.new.is_busy ≡ (may_be && not (is_done task self.old nodes) && (if were_all then nat_le self.old.round (self.old.steps / HEAVY) else self.old.is_busy)) }
+        ensures same { self.new ≡ record self.old { is_busy = self.new.is_busy } }
     {
         let more = may_be && !self.is_done(task, nodes);
         let heavy = self.steps / HEAVY >= u64::from(self.round);
@@ -116,6 +122,7 @@ impl Turns {
         ensures idle { self.new.idle ≡ self.old.idle }
         ensures made { self.new.made ≡ self.old.made }
         ensures busy { self.new.is_busy ≡ self.old.is_busy }
+        ensures exact { self.new ≡ record self.old { is_full = true } }
     {
         self.is_full = true;
     }
@@ -128,6 +135,7 @@ impl Turns {
         ensures busy { self.new.is_busy ≡ self.old.is_busy }
         ensures full { self.new.is_full ≡ false }
         ensures settled { self.old.settled < MOST_SETTLED → self.new.settled ≡ self.old.settled + 1 }
+        ensures same { self.new ≡ record self.old { idle = 0; is_full = false; settled = self.new.settled } }
     {
         self.idle = 0;
         self.is_full = false;
@@ -144,6 +152,11 @@ impl Turns {
         ensures busy { self.new.is_busy ≡ self.old.is_busy }
         ensures halted { self.new.has_halted ≡ (self.old.has_halted || did.halted) }
         ensures settled { self.new.settled ≡ (if did.nothing then self.old.settled else 0) }
+        ensures idle { self.new.idle ≡ (if did.nothing && not is_running then min (self.old.idle + 1) (2 ^ 32 - 1) else 0) }
+        ensures beside { self.new.beside ≡ (if is_running then min (self.old.beside + 1) (2 ^ 32 - 1) else self.old.beside) }
+        ensures round { self.new.round ≡ min (self.old.round + 1) (2 ^ 32 - 1) }
+        ensures steps { self.new.steps ≡ min (self.old.steps + did.steps) (2 ^ 64 - 1) }
+        ensures full { self.new.is_full ≡ self.old.is_full }
     {
         self.made = self.made.saturating_add(1);
         self.whose = next_of(self.whose, nodes);
@@ -170,6 +183,8 @@ impl Turns {
         ensures idle { self.new.idle ≡ 0 }
         ensures made { self.old.made + count < 2 ^ 64 → self.new.made ≡ self.old.made + count }
         ensures halted { self.new.has_halted ≡ (self.old.has_halted || has_halted) }
+        ensures busy { self.new.is_busy ≡ (self.old.is_busy && not is_idle) }
+        ensures same { self.new ≡ record self.old { made = self.new.made; idle = 0; has_halted = self.new.has_halted; is_busy = self.new.is_busy } }
     {
         self.made = self.made.saturating_add(count);
         self.idle = 0;
@@ -181,6 +196,7 @@ impl Turns {
     pub(crate) fn stay_alone(&mut self)
         ensures whose { self.new.whose ≡ self.old.whose }
         ensures idle { self.new.idle ≡ self.old.idle }
+        ensures exact { self.new ≡ record self.old { is_busy = false } }
     {
         self.is_busy = false;
     }
@@ -192,6 +208,7 @@ impl Turns {
         ensures made { self.new.made ≡ self.old.made }
         ensures busy { self.new.is_busy ≡ self.old.is_busy }
         ensures settled { self.new.settled ≡ 0 }
+        ensures exact { self.new ≡ record self.old { settled = 0 } }
     {
         self.settled = 0;
     }

@@ -12,3 +12,6 @@ node_had start number (Err refusal) there rests = tt
 
 pub returns-else-whose-nodes-clause-had : goal.returns-else-whose-nodes-clause-had
 returns-else-whose-nodes-clause-had g c = node_had g.J.Naming.start c.args.whose c.node_turn.result (omega arith) c.node_turn.ensures.rests
+
+pub returns-then-whose-nodes-clause-turn : goal.returns-then-whose-nodes-clause-turn
+returns-then-whose-nodes-clause-turn g c = c.host_turn.ensures.turn c.args.quantum
