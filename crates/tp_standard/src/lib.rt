@@ -6,8 +6,6 @@ mod backlog;
 mod late;
 mod looking;
 mod printing;
-mod stand_ins;
-mod system;
 mod waiting;
 
 pub use apart::Apart;
@@ -15,6 +13,4 @@ pub use backlog::Backlog;
 pub use late::Late;
 pub use looking::{Looker, millis};
 pub use printing::Printing;
-pub use stand_ins::{ask_system, stand_in};
-pub use system::{Behind, System};
 pub use waiting::Patient;

@@ -1,8 +1,6 @@
 //! `tp_stories`: plays stories of commands, and prints what each of them did.
 #![tactic(auto)]
 
-ghost use Rattle.std.specs.Prelude.{◌≡◌};
-
 mod commands;
 mod failing;
 mod faulty;
@@ -23,7 +21,7 @@ mod watching;
 
 use faulty::Faults;
 use playing::play_file;
-use redirected::{Redirected, Redirects, TERMINAL};
+use redirected::{Redirected, Redirects};
 use std::fs::{Files, OpenFile};
 use std::io::Write;
 use std::os::unix::fs::FileExt;
@@ -32,8 +30,7 @@ use std::rt::Env;
 use std::sync::Wait;
 use std::thread::Threads;
 use std::{env, io};
-use tp_standard::{Apart, Backlog, Behind, Patient, Printing, System};
-use tp_stream_files::StandardStream;
+use tp_standard::{Apart, Backlog, Patient, Printing};
 
 /// Plays the files of stories that the words name. Answers whether each line of them could be played.
 fn play_files<
@@ -48,16 +45,6 @@ fn play_files<
         are_played = play_file(rt, files, path.as_str(), out)? && are_played;
     }
     Ok(are_played)
-}
-
-/// A standard stream that no story redirects.
-fn untouched(stream: StandardStream) -> Behind
-    ensures { result.stream ≡ stream }
-{
-    Behind {
-        stream,
-        file: TERMINAL,
-    }
 }
 
 /// Says bytes one by one. Answers whether each was taken.
@@ -83,13 +70,7 @@ fn tell_end<E: Write, O: Write>(said: &mut E, unwritten: &Backlog, printed: &mut
 
 fn main(rt: HostRuntime) -> ExitCode {
     let faults = Faults::none();
-    let system = System::new(
-        &rt,
-        untouched(StandardStream::In),
-        untouched(StandardStream::Out),
-        untouched(StandardStream::Error),
-    );
-    let files = Redirected::new(&system, &faults);
+    let files = Redirected::new(&rt, &faults);
     let backlog = Backlog::new(rt.alloc());
     let unwritten = backlog.shared();
     let mut printed = Printing::new(&rt, Patient::new(rt, rt.stdout()), backlog.shared());

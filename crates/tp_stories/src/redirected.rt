@@ -54,7 +54,7 @@ fn path_behind(streams: &[(StandardStream, String)], stream: StandardStream) -> 
     None
 }
 
-impl<'a, R: Files + StandardStreams + Wait> Redirects for Redirected<'a, R> {
+impl<'a, R: Files + Wait> Redirects for Redirected<'a, R> {
     fn redirect(&self, streams: Vec<(StandardStream, String)>) {
         *self.streams.lock(self.below) = streams;
     }
@@ -76,16 +76,14 @@ impl<'a, R: Files + Wait> Redirected<'a, R> {
             if *usurps != now {
                 return;
             }
-            let _gone = self.below.remove_file(path);
-            let _moved = self.below.hard_link(file.as_str(), path);
-            let _left = self.below.remove_file(file.as_str());
+            let _moved = self.below.rename(file.as_str(), path);
             *usurper = None;
         }
     }
 }
 
 /// A standard stream that is no file of the story.
-pub(crate) const TERMINAL: StandardFile = StandardFile {
+const TERMINAL: StandardFile = StandardFile {
     numbers: None,
     is_regular: false,
 };
@@ -101,12 +99,12 @@ fn standard_at<R: Files>(rt: &R, path: &str) -> StandardFile {
     }
 }
 
-impl<'a, R: Files + StandardStreams + Wait> StandardStreams for Redirected<'a, R> {
+impl<'a, R: Files + Wait> StandardStreams for Redirected<'a, R> {
     fn behind(&self, stream: StandardStream) -> StandardFile {
         let streams = self.streams.lock(self.below);
         match path_behind(streams.as_slice(), stream) {
             Some(path) => standard_at(self.below, path),
-            None => self.below.behind(stream),
+            None => TERMINAL,
         }
     }
 }

@@ -3,15 +3,18 @@
 
 mod file_lock;
 mod holding;
+mod stand_ins;
+mod system;
 mod watching;
 
 use holding::SystemLocks;
+use stand_ins::{ask_system, stand_in};
 use std::io::{IsTerminal, Write};
 use std::process::ExitCode;
 use std::rt::Env;
 use std::{env, io};
 use tp_program::{FileDevices, answer_over};
-use tp_standard::{Apart, Backlog, Late, Looker, Patient, Printing, ask_system, stand_in};
+use tp_standard::{Apart, Backlog, Late, Looker, Patient, Printing};
 use watching::Watcher;
 
 fn words_of<R: Env + AllocGlobal>(rt: &R) -> io::Result<Vec<String>> {

@@ -13,15 +13,15 @@ use tp_stream_files::{StandardFile, StandardStream, StandardStreams};
 
 /// A standard stream, and what it comes from or goes to.
 #[derive(Clone, Copy)]
-pub struct Behind {
-    pub stream: StandardStream,
-    pub file: StandardFile,
+pub(crate) struct Behind {
+    pub(crate) stream: StandardStream,
+    pub(crate) file: StandardFile,
 }
 
 /// The system, for commands. Which files its standard streams are was asked as the program began. It refuses each call on a path that no command makes,
 /// so none can rename, copy or list anything, or make or remove a folder.
 #[derive(Drop)]
-pub struct System<'a, R> {
+pub(crate) struct System<'a, R> {
     rt: &'a R,
     input: StandardFile,
     output: StandardFile,
@@ -30,7 +30,7 @@ pub struct System<'a, R> {
 
 impl<'a, R> System<'a, R> {
     /// The system, in which the standard streams are those files.
-    pub fn new(rt: &'a R, input: Behind, output: Behind, error: Behind) -> System<'a, R>
+    pub(crate) fn new(rt: &'a R, input: Behind, output: Behind, error: Behind) -> System<'a, R>
         requires input { input.stream ≡ StandardStream.In }
         requires output { output.stream ≡ StandardStream.Out }
         requires error { error.stream ≡ StandardStream.Error }

@@ -14,7 +14,7 @@ const LAST_STREAM: i32 = 2;
 
 /// Opens a file that is only read. It gets the number of the first standard stream that is closed, if one is; else it is dropped. Any
 /// file that was opened later would get that number otherwise, and what is printed would be written over it.
-pub fn stand_in<R: Files<File = File>>(rt: &R) -> Option<File>
+pub(crate) fn stand_in<R: Files<File = File>>(rt: &R) -> Option<File>
     ensures { IfSome result (λ file. IfSome (⟦<File as AsRawFd>⟧.raw_fd file) (λ number. number ≤ℤ pos 2)) }
 {
     let mut reads = OpenOptions::new();
@@ -68,7 +68,7 @@ fn behind<R: Files, S: IsTerminal>(rt: &R, stream: StandardStream, handle: &S) -
 }
 
 /// The system with the files that its standard streams are. None if it can't be told of one of them.
-pub fn ask_system<'a, R: Files, I: IsTerminal, O: IsTerminal, E: IsTerminal>(
+pub(crate) fn ask_system<'a, R: Files, I: IsTerminal, O: IsTerminal, E: IsTerminal>(
     rt: &'a R,
     input: &I,
     output: &O,
