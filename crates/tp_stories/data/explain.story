@@ -389,6 +389,13 @@ tpnet run device --stream --turns 1 --out 0=no\nne/out --explain
 tpnet run device --stream --turns 1 --discard 0 --in 0=no\nne --explain
 tpnet backup device c\nd
 tpnet backup device c\nd --explain
+# The name of a device is shown so by each line that names it: a full journal's too, whether it can be emptied or has to have its input by pieces.
+tpnet format d\x1Bv\ne net.txt . 16384
+fill over 106 6D
+fill most 105 6D
+tpnet run d\x1Bv\ne --turns 0 --in over --explain
+tpnet run d\x1Bv\ne --turns 4 --workers 1 --quantum 16 2>err
+tpnet run d\x1Bv\ne --turns 0 --in most --explain
 # Other characters are shown as they are.
 tpnet show gr\xC3\xB6\xC3\x9Fe --explain
 # So it is where the words ask for nothing.
