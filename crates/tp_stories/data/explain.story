@@ -412,6 +412,68 @@ starts err error: unexpected argument 'a\x5Cx0Ab' found\n
 tpnet run device --stream --discard 0 a\nb 2>err
 starts err error: unexpected argument 'a\x5Cx0Ab' found\n
 
+story shown_names
+# So it is in each line that says a path. A node hands on a topology into a file with such a name; that is no output of another device, and a new file
+# has none of this one's.
+text net.txt node a 4\nport from\nport to\nwire a.0 from\nwire a.3 to\n
+image a.img 11 24 F2 54 41 F7 11 24 F2 53 41 FB 60 02
+tpnet format d\x1Bv net.txt . 65536
+tpnet format e\x1Bw net.txt . 65536
+tpnet run d\x1Bv --stream --quantum=64 --until-quiet --discard 0 --out 1=o\x1Bt --in 0=net.txt 2>err
+tpnet run e\x1Bw --stream --until-quiet --discard 0 --out 1=o\x1Bt --explain
+tpnet run d\x1Bv --stream --until-quiet --discard 0 --out 1=n\x1Bw --explain
+tpnet run d\x1Bv --stream --until-quiet --discard 0 --discard 1 --in 0=n\x1Bw --explain
+# It is no device, image or map, and the empty one is no topology.
+tpnet recover o\x1Bt --explain
+tpnet try o\x1Bt --turns 1 --explain
+tpnet trace a.img --map o\x1Bt --explain
+tpnet check n\x1Bw . --explain
+tpnet format o\x1Bt o\x1Bt . 16384
+# A place that is none, a label below memory, a folder without a map, and a device that is there.
+tpnet trace a.img --watch w\x1Bx --explain
+text low.map 7FFFFFFC l\xC2\x9B send.asm:1\n
+tpnet trace a.img --map low.map --watch l\xC2\x9B --explain
+tpnet node d\x1Bv 0 --map no\x1Bne --explain
+tpnet format --new d\x1Bv net.txt . 65536 --explain
+# What is printed can't be, of a device and of a backup.
+shut gone
+tpnet show d\x1Bv --explain
+tpnet backup d\x1Bv c\x1Bd --explain
+shut
+# A backup into no folder, onto the device, and where its first name is the device or another one's.
+tpnet format p\x1Bt.part net.txt . 65536
+tpnet backup d\x1Bv no\x1Bne/copy --explain
+tpnet backup d\x1Bv d\x1Bv --explain
+tpnet backup p\x1Bt.part p\x1Bt --explain
+tpnet backup d\x1Bv p\x1Bt --explain
+# Nobody is asked to stop, a request would go over a file, and the one who is asked goes on.
+tpnet stop e\x1Bw --explain
+tpnet run e\x1Bw --stream --quantum=64 --until-quiet --discard 0 --out 1=d\x1Bv.stop --in 0=net.txt 2>err
+held 100
+tpnet stop d\x1Bv --explain
+tpnet stop e\x1Bw --wait 1 --explain
+held
+# Two nodes wait for each other. Whichever call fails as another device is formatted over theirs, the old one may be gone.
+text net.txt node a 4\nnode b 4\nwire a.0 b.0\nport h\nwire a.3 h\n
+image a.img 11 24 F2 54 41 F7
+image b.img 11 24 F2 54 41 F7
+tpnet format q\x1Bt net.txt . 65536
+tpnet run q\x1Bt --stream --until-quiet --discard 0 --explain
+sweep alone all 0
+tpnet format q\x1Bt net.txt . 65536 --explain >out 2>err
+has err \n  A device that was in q\x5Cx1Bt before may be gone: 
+end
+# A stream's journal is full, and no checkpoint frees it.
+text net.txt node a 8\nport h\nwire a.0 h\n
+fill a.img 8364 00
+set a.img 0 01 00 08 00 00 01 00 80 00 02 00 80
+set a.img 24 00 00 00 80 00 00 00 80 00 00 00 80 00 00 00 80 00 02
+set a.img 216 00 00 00 80
+set a.img 428 11 24 F2 54 41 F7
+text in abcdefg
+tpnet format f\x1Bl net.txt . 17546
+tpnet run f\x1Bl --stream --until-quiet --spare 8 --quantum 1 --every 2 --discard 0 --in 0=in --explain
+
 story run
 # What run refuses; the device stays as it was.
 text net.txt node a 4\nport h\nwire a.0 h\n
@@ -624,13 +686,13 @@ story failed_copy
 # again: so by turns, as pieces of the one are read and written into the other.
 text net.txt node a 4\nport h\nwire a.0 h\n
 image a.img
-tpnet format device net.txt . 16384
+tpnet format d\x1Bv net.txt . 16384
 sweep alone all 0
 remove copy
-tpnet backup device copy --explain >out 2>err
+tpnet backup d\x1Bv copy --explain >out 2>err
 starts err tpnet: ReadFailed\n
 has err \n  copy: 
-has err \n  device opens now. Of Busy: another process writes it so fast that no moment of it could be copied; try again, or stop that process.\n  Of DeviceFailed: the copy didn't open to what the device opened to. Else memory was wanting, or a read failed.\n
+has err \n  d\x5Cx1Bv opens now. Of Busy: another process writes it so fast that no moment of it could be copied; try again, or stop that process.\n  Of DeviceFailed: the copy didn't open to what the device opened to. Else memory was wanting, or a read failed.\n
 end
 
 story numbers_of_ends
