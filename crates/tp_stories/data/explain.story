@@ -396,6 +396,9 @@ fill most 105 6D
 tpnet run d\x1Bv\ne --turns 0 --in over --explain
 tpnet run d\x1Bv\ne --turns 4 --workers 1 --quantum 16 2>err
 tpnet run d\x1Bv\ne --turns 0 --in most --explain
+# So it is where a file isn't looked at again. This one has a tab in its name.
+symlink /dev/null nu	ll
+tpnet show nu\x09ll --explain
 # Other characters are shown as they are.
 tpnet show gr\xC3\xB6\xC3\x9Fe --explain
 # So it is where the words ask for nothing.

@@ -242,6 +242,12 @@ has out node 1 in 0 inputs left 1 since 1 process 80000201 at 80000106 after aga
 text m/1.map \n
 tpnet waits device --map m >out
 has out node 1 in 0 inputs left 1 since 1 process 80000201 at 80000106 after start+5 (a.asm:6) from node 0 link 1: both input\n
+# A map may be at the end of a link.
+remove m/1.map
+text b.map 80000105 linked b.asm:600\n
+symlink ../b.map m/1.map
+tpnet waits device --map m >out
+has out node 1 in 0 inputs left 1 since 1 process 80000201 at 80000106 after linked+0 (b.asm:600) from node 0 link 1: both input\n
 tpnet waits device --dot
 
 story no_map
