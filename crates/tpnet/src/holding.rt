@@ -5,10 +5,10 @@ ghost use Rattle.tpnet.specs.Tries.{IsTriedFor};
 
 use crate::file_lock::{FileLock, TriedLock};
 use std::fs::{File, Files, OpenFile, OpenOptions, TryLockError};
+use std::os::unix::fs::MetadataExt;
 use std::time::Clock;
 use std::{fs, io};
 use tp_program::{Held, InUse, Locks, is_openable};
-use tp_stream_files::numbers_in;
 
 /// How many times a second a device is tried again that another process holds.
 const TRIES: u64 = 20;
@@ -67,7 +67,7 @@ fn hold_file<R: Files<File = File> + Clock>(
 /// Whether a path names this very file, as far as the system says.
 fn is_named<R: Files>(rt: &R, path: &str, file: &File) -> bool {
     match (file.metadata(), fs::metadata(rt, path)) {
-        (Ok(one), Ok(other)) => numbers_in(&one) == numbers_in(&other),
+        (Ok(one), Ok(other)) => one.dev() == other.dev() && one.ino() == other.ino(),
         _ => false,
     }
 }

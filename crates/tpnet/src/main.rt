@@ -1,20 +1,31 @@
 //! `tpnet`: the program.
 #![tactic(auto)]
 
+mod apart;
+mod backlog;
 mod file_lock;
 mod holding;
+mod late;
+mod looking;
+mod printing;
 mod stand_ins;
 mod system;
+mod waiting;
 mod watching;
 
+use apart::Apart;
+use backlog::Backlog;
 use holding::SystemLocks;
+use late::Late;
+use looking::Looker;
+use printing::Printing;
 use stand_ins::{ask_system, stand_in};
 use std::io::{IsTerminal, Write};
 use std::process::ExitCode;
 use std::rt::Env;
 use std::{env, io};
 use tp_program::{FileDevices, answer_over};
-use tp_standard::{Apart, Backlog, Late, Looker, Patient, Printing};
+use waiting::Patient;
 use watching::Watcher;
 
 fn words_of<R: Env + AllocGlobal>(rt: &R) -> io::Result<Vec<String>> {

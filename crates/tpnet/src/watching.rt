@@ -4,7 +4,6 @@ use std::fs::{File, Files, OpenOptions, TryLockError};
 use std::thread::sleep;
 use std::time::{Clock, Duration};
 use tp_program::{Watch, is_openable};
-use tp_standard::millis;
 
 /// Looks at a device's lock by taking a shared one, which it gives back at once, and goes by the system's clock.
 #[derive(Drop)]
@@ -31,7 +30,10 @@ impl<'a, R: Files<File = File> + Clock> Watch for Watcher<'a, R> {
     }
 
     fn now(&mut self) -> u64 {
-        millis(self.rt)
+        match self.rt.monotonic() {
+            Ok(time) => u64::try_from(time.as_millis()).unwrap_or(0),
+            Err(_) => 0,
+        }
     }
 
     fn clock(&mut self) -> Option<Duration> {

@@ -1,7 +1,7 @@
 //! Standard input that isn't read before the first call.
 
-ghost use Rattle.std.specs.Prelude.{◌≡◌, ◌≢◌, [], None, IfErr};
-ghost use Rattle.tp_standard.specs.Lower.{error_kind, ReadsAtMost, ReadConsumes};
+ghost use Rattle.std.specs.Prelude.{◌≡◌, [], None};
+ghost use Rattle.tpnet.specs.Lower.{ReadsAtMost, ReadConsumes};
 
 use crossbeam_channel::{Receiver, Sender, bounded};
 use std::io;
@@ -24,7 +24,6 @@ fn read_waiting<R: Wait + Clock, I: Read>(
 ) -> io::Result<usize>
     ensures bound { ReadsAtMost result buf.new }
     ensures bytes { ReadConsumes (I.remaining reader.old) (I.remaining reader.new) result buf.new }
-    ensures waited { IfErr result (λ error. error_kind error ≢ ErrorKind.WouldBlock) }
 {
     for _ in rt.forever() {
         match reader.read(buf) {
@@ -34,7 +33,7 @@ fn read_waiting<R: Wait + Clock, I: Read>(
             done => return done,
         }
     }
-    Err(io::Error::from(ErrorKind::Other))
+    Err(io::Error::from(ErrorKind::WouldBlock))
 }
 
 /// A reader that reads nothing before it is told to; if nobody is left who could tell it, a read fails.
@@ -73,7 +72,7 @@ fn gate_reader<R: Input<Reader = I> + AllocGlobal + Drop, I: Read + Drop>(
 
 /// Standard input, whose thread reads from the first call on: a stream that is refused before it makes one reads nothing of it.
 #[derive(Drop)]
-pub struct Late<R: Drop> {
+pub(crate) struct Late<R: Drop> {
     rt: R,
     /// Who tells the thread to read, until it is told.
     to_tell: Option<Sender<()>>,
@@ -86,7 +85,7 @@ impl<
     I: Read + Drop + Send + 'static,
 > Late<R> {
     /// Standard input, unread so far.
-    pub fn new(rt: R) -> Late<R>
+    pub(crate) fn new(rt: R) -> Late<R>
         ensures { result.trace.told ≡ [] }
     {
         let (to_tell, reader) = match gate_reader(rt) {

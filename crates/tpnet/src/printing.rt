@@ -8,7 +8,7 @@ use std::time::Clock;
 /// A writer that waits before its first byte until what was said is written: where a port's output begins is said first. But it waits for some
 /// seconds at most, and never again: even if nobody reads what is said, each byte is written.
 #[derive(Drop)]
-pub struct Printing<'a, R, W: Drop> {
+pub(crate) struct Printing<'a, R, W: Drop> {
     rt: &'a R,
     to: W,
     /// What is said, until the first byte.
@@ -17,7 +17,7 @@ pub struct Printing<'a, R, W: Drop> {
 
 impl<'a, R, W: Drop> Printing<'a, R, W> {
     /// Nothing was written. `before` is what is said.
-    pub fn new(rt: &'a R, to: W, before: Backlog) -> Printing<'a, R, W> {
+    pub(crate) fn new(rt: &'a R, to: W, before: Backlog) -> Printing<'a, R, W> {
         Printing {
             rt,
             to,

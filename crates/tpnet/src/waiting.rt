@@ -1,7 +1,6 @@
 //! A writer that this process waits for, even if the writer doesn't wait itself.
 
-ghost use Rattle.std.specs.Prelude.{◌≢◌, IfErr};
-ghost use Rattle.tp_standard.specs.Lower.{error_kind, WritesAtMost, WriteAppends};
+ghost use Rattle.tpnet.specs.Lower.{WritesAtMost, WriteAppends};
 
 use std::io;
 use std::io::{ErrorKind, Write};
@@ -17,7 +16,6 @@ const PAUSE: u64 = 20;
 fn write_waiting<R: Wait + Clock, W: Write>(rt: &R, writer: &mut W, buf: &[u8]) -> io::Result<usize>
     ensures bound { WritesAtMost result buf.now }
     ensures bytes { WriteAppends (W.contents writer.old) (W.contents writer.new) result buf.now }
-    ensures waited { IfErr result (λ error. error_kind error ≢ ErrorKind.WouldBlock) }
 {
     for _ in rt.forever() {
         match writer.write(buf) {
@@ -27,18 +25,18 @@ fn write_waiting<R: Wait + Clock, W: Write>(rt: &R, writer: &mut W, buf: &[u8]) 
             done => return done,
         }
     }
-    Err(io::Error::from(ErrorKind::Other))
+    Err(io::Error::from(ErrorKind::WouldBlock))
 }
 
 /// A writer that this process waits for.
 #[derive(Drop)]
-pub struct Patient<R: Drop, W: Drop> {
+pub(crate) struct Patient<R: Drop, W: Drop> {
     rt: R,
     writer: W,
 }
 
 impl<R: Drop, W: Drop> Patient<R, W> {
-    pub fn new(rt: R, writer: W) -> Patient<R, W> {
+    pub(crate) fn new(rt: R, writer: W) -> Patient<R, W> {
         Patient { rt, writer }
     }
 }

@@ -1,5 +1,5 @@
 use Rattle.std.specs.Io.KnownBytes.{Keeps}
-use Rattle.tp_standard.proofs.late.read_waiting.Given as goal
+use Rattle.tpnet.proofs.late.read_waiting.Given as goal
 
 -- the reads so far found nothing, and took nothing
 abbrev pub invariant-loop : goal.invariant-loop

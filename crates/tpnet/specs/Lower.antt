@@ -1,4 +1,3 @@
 -- What definitions and contracts here name of the crates below.
 pub use Rattle.std.specs.Io.{ReadsAtMost, WritesAtMost}
 pub use Rattle.std.specs.Io.KnownBytes.{ReadConsumes, WriteAppends}
-pub use Rattle.std.specs.IoError.{error_kind}

@@ -19,7 +19,7 @@ struct Writer {
 /// A writer whose thread takes all that is written at once, and hands it on in order. If there is no memory, or no thread, a piece is handed
 /// on here, after all before it.
 #[derive(Drop)]
-pub struct Apart<R: Drop, W: Drop> {
+pub(crate) struct Apart<R: Drop, W: Drop> {
     rt: R,
     to: W,
     backlog: Backlog,
@@ -61,7 +61,7 @@ impl<
     W: Write + Copy + Drop + Send + 'static,
 > Apart<R, W> {
     /// Nothing was written, and the thread is begun. `backlog` counts what it hasn't handed on.
-    pub fn new(rt: R, to: W, backlog: Backlog) -> Apart<R, W> {
+    pub(crate) fn new(rt: R, to: W, backlog: Backlog) -> Apart<R, W> {
         let writer = begin(rt, to, &backlog);
         Apart {
             rt,
@@ -87,7 +87,7 @@ impl<R: Threads + Wait + AllocGlobal + Drop, W: Drop> Apart<R, W> {
     }
 
     /// Waits until all was handed on.
-    pub fn end(self) {
+    pub(crate) fn end(self) {
         let Apart { rt, writer, .. } = self;
         if let Some(Writer { pieces, thread }) = writer {
             drop(pieces);

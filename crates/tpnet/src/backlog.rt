@@ -14,25 +14,25 @@ const PATIENCE: u64 = 5000;
 
 /// How many pieces aren't written yet, which two threads count. There is no count if there was no memory for it.
 #[derive(Drop)]
-pub struct Backlog {
+pub(crate) struct Backlog {
     count: Option<Arc<AtomicU64, Global>>,
 }
 
 impl Backlog {
     /// All is written.
-    pub fn new(alloc: Global) -> Backlog {
+    pub(crate) fn new(alloc: Global) -> Backlog {
         Backlog {
             count: Arc::new(alloc, AtomicU64::new(0)).ok(),
         }
     }
 
     /// Whether there is a count.
-    pub fn is_counted(&self) -> bool {
+    pub(crate) fn is_counted(&self) -> bool {
         self.count.is_some()
     }
 
     /// This count, for somebody else.
-    pub fn shared(&self) -> Backlog {
+    pub(crate) fn shared(&self) -> Backlog {
         Backlog {
             count: match &self.count {
                 Some(count) => Arc::try_clone(count).ok(),
@@ -42,21 +42,21 @@ impl Backlog {
     }
 
     /// A piece is to be written.
-    pub fn add(&self) {
+    pub(crate) fn add(&self) {
         if let Some(count) = &self.count {
             count.fetch_add(1, Ordering::SeqCst);
         }
     }
 
     /// A piece is written, or dropped.
-    pub fn take(&self) {
+    pub(crate) fn take(&self) {
         if let Some(count) = &self.count {
             count.fetch_sub(1, Ordering::SeqCst);
         }
     }
 
     /// Whether all is written. It checks anew each time.
-    pub fn is_empty(&self) -> bool {
+    pub(crate) fn is_empty(&self) -> bool {
         match &self.count {
             Some(count) => count.load(Ordering::SeqCst) == 0,
             None => true,
@@ -64,7 +64,7 @@ impl Backlog {
     }
 
     /// Waits until all is written.
-    pub fn wait<R: Wait + Clock>(&self, rt: &R) {
+    pub(crate) fn wait<R: Wait + Clock>(&self, rt: &R) {
         for _ in rt.forever() {
             if self.is_empty() {
                 break;
@@ -74,7 +74,7 @@ impl Backlog {
     }
 
     /// Waits until all is written, or some seconds have gone by.
-    pub fn wait_awhile<R: Clock>(&self, rt: &R) {
+    pub(crate) fn wait_awhile<R: Clock>(&self, rt: &R) {
         for _ in 0..PATIENCE / PAUSE {
             if self.is_empty() {
                 break;

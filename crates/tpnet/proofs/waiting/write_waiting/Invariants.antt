@@ -1,5 +1,5 @@
 use Rattle.std.specs.Io.KnownBytes.{Keeps}
-use Rattle.tp_standard.proofs.waiting.write_waiting.Given as goal
+use Rattle.tpnet.proofs.waiting.write_waiting.Given as goal
 
 -- the writes so far were not taken, and appended nothing
 abbrev pub invariant-loop : goal.invariant-loop

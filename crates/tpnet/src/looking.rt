@@ -1,16 +1,15 @@
 //! Who looks at standard error, for lines by time.
 
-ghost use Rattle.std.specs.Prelude.{◌≡◌, ◌<◌, ◌^◌, ◌/◌, [], true, false, None, IsSome};
-ghost use Rattle.std.specs.Duration.{as_nanos};
+ghost use Rattle.std.specs.Prelude.{◌≡◌, [], false, None};
 
 use crate::backlog::Backlog;
-use std::time::{Clock, Duration};
+use std::time::Clock;
 use tp_stream_files::{Onlooker, Times};
 
 /// Has the system's clock, and was told whether standard error and standard output are terminals. While what was said isn't written it has no time: a
 /// line that may be left out would only queue up.
 #[derive(Drop)]
-pub struct Looker<'a, R> {
+pub(crate) struct Looker<'a, R> {
     rt: &'a R,
     backlog: Backlog,
     is_terminal: bool,
@@ -20,7 +19,7 @@ pub struct Looker<'a, R> {
 
 impl<'a, R> Looker<'a, R> {
     /// No time was asked for. `backlog` counts what was said and isn't written.
-    pub fn new(
+    pub(crate) fn new(
         rt: &'a R,
         backlog: Backlog,
         is_terminal: bool,
@@ -39,25 +38,17 @@ impl<'a, R> Looker<'a, R> {
     }
 }
 
-/// Gives a time in milliseconds; 0 if they are more than the number can say.
-fn millis_of(time: Duration) -> u64
-    ensures { as_nanos time / 1_000_000 < 2 ^ 64 → result ≡ as_nanos time / 1_000_000 }
-{
-    u64::try_from(time.as_millis()).unwrap_or(0)
-}
-
 /// How many milliseconds the system's clock has gone. One that can't be read is still.
-pub fn millis<R: Clock>(rt: &R) -> u64 {
+fn millis<R: Clock>(rt: &R) -> u64 {
     match rt.monotonic() {
-        Ok(time) => millis_of(time),
+        Ok(time) => u64::try_from(time.as_millis()).unwrap_or(0),
         Err(_) => 0,
     }
 }
 
 /// The time that lines go by: none while what was said isn't written.
 fn time_of<R: Clock>(rt: &R, is_written: bool) -> Option<u64>
-    ensures unwritten { is_written ≡ false → result ≡ None }
-    ensures written { is_written ≡ true → IsSome result }
+    ensures { is_written ≡ false → result ≡ None }
 {
     if is_written { Some(millis(rt)) } else { None }
 }
