@@ -832,6 +832,11 @@ tpnet recover device --explain
 copy fresh device
 set device 4821 03
 tpnet recover device --explain
+# Six ports, of which the last one's line is line 9, behind those of the node's four links.
+text net.txt node a 4\nport g\nport h\nport i\nport j\nport k\nport l\nwire a.0 h\nwire a.3 l\n
+tpnet format device net.txt . 65536
+set device 4837 03
+tpnet recover device --explain
 # Two nodes of 5 and 7 pages, three ports, and a compacted device: of the second node the image and the line of its last link, the line and the record of
 # the last port, and the journal behind it.
 text net.txt node a 5\nnode b 7\nport g\nport h\nport k\nwire a.0 b.1\nwire b.3 g\nwire a.2 k\n
