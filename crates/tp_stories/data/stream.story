@@ -397,6 +397,15 @@ has err +8/s out 0 0 +0/s out 1 3 +0/s
 tpnet run device --stream --turns 60 --progress-every 3600 --in 0=- --discard 0 --out 1=- <given >printed 2>err
 has err area
 
+story confirmed_before_quiet
+# A node sends the letter A once, and each look at the clock is ten seconds behind the one before. A stream isn't quiet right behind a put: two more
+# turns are made, and a look finds the letter put, and its confirm on the disk. Three turns put it out, and in each two more nothing was left to do.
+text net.txt node a 4\nport h\nwire a.0 h\n
+image a.img 27 2F 2F 2F 2F 2F 6F 40 24 41 FE 21 F5
+tpnet format device net.txt . 16384
+looks 10000
+tpnet run device --stream --quantum=64 --workers 1 --until-quiet --discard 0 --progress
+
 story each_entry
 # A snapshot begins behind each entry: the first holds the first run, the second one all, and then none is left to begin.
 text net.txt node a 4\nport h\nwire a.0 h\n
