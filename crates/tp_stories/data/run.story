@@ -221,6 +221,23 @@ tpnet recover often
 tpnet run never --turns 40 --workers 1 --quantum 16 --every 4294967295
 tpnet show never
 
+story copied_in_the_end
+# While turns are made, no further image is copied once 1,024 pages were; behind the last turn all are. A snapshot begins behind the tenth entry, and
+# each of seven nodes has recorded eight turns later: so those ten entries are in the checkpoint as the run ends.
+text net.txt node a 1024\nnode b 1024\nnode c 1024\nnode d 1024\nnode e 1024\nnode f 1024\nnode g 1024\nport h\n
+image a.img 60 0E
+cut a.img 1048748
+set a.img 2 00 04
+copy a.img b.img
+copy a.img c.img
+copy a.img d.img
+copy a.img e.img
+copy a.img f.img
+copy a.img g.img
+tpnet format device net.txt . --area 8M
+tpnet run device --turns 20 --workers 1 --quantum 1 --every 10
+tpnet show device
+
 story begun_by_two
 # A snapshot is due behind each entry, and often two workers find that at once: the one that comes second makes its turns all the same. Five nodes
 # of six are no other worker's, so more than half of the turns make an entry, in whatever order threads run: there are 10,000 entries and more.
