@@ -7,12 +7,12 @@ work=$(mktemp -d /tmp/bench-pool-XXXX)
 trap 'rm -rf "$work"' EXIT
 
 mkdir -p "$work/crates/bench_pool/src"
-for crate in tp_model tp_frames; do
+for crate in tp_model tp_law_machine tp_mem; do
     mkdir "$work/crates/$crate"
     cp -r "$top/crates/$crate/src" "$top/crates/$crate/specs" "$top/crates/$crate/proofs" "$work/crates/$crate"
 done
-grep -E '^tp_(model|frames):' "$top/crates.txt" > "$work/crates.txt"
-echo "bench_pool: tp_frames" >> "$work/crates.txt"
+grep -E '^tp_(model|law_machine|mem):' "$top/crates.txt" > "$work/crates.txt"
+echo "bench_pool: tp_mem" >> "$work/crates.txt"
 cp "$top/HANDLES" "$work"
 cp "$top/bench/pool.rattle" "$work/crates/bench_pool/src/main.rt"
 cd "$work/crates/bench_pool"

@@ -1,6 +1,7 @@
 -- Pages of the frozen bytes, and the frames that hold copies.
 use Rattle.std.proofs.Common.{◌≡◌, ℕ, zero, suc, ◌+◌, ◌-◌, ◌*◌, ◌<◌, ◌≤◌, Bool, true, false, List, [], ◌∷◌, ◌++◌, length, Option, Some, None, get_or, set, take, drop, replicate, refl, sym, ap, subst, ◌∙◌, arith}
-use Rattle.tp_mem.proofs.Lower.{ForSome, get_or-set_same, get_or-set_other, length-append, length-take-le, length-drop, take-append-drop, drop-drop, take-append_seam, PAGE_BYTES, HeldFrame, Frames, frame, held_owners, held_bytes, owners_of, bytes_of, free_in, private_in, vacancy, free_in-set}
+use Rattle.tp_mem.proofs.Lower.{ForSome, get_or-set_same, get_or-set_other, length-append, length-take-le, length-drop, take-append-drop, drop-drop, take-append_seam, PAGE_BYTES, HeldFrame, Frames, frame, held_owners, held_bytes, owners_of, bytes_of, free_in, private_in}
+use Rattle.tp_mem.proofs.Frames.{vacancy, free_in-set}
 use Rattle.tp_mem.specs.Contents.{page_of}
 use Rattle.tp_mem.specs.Copies.{frozen_bytes, frozen_from, shared_of, copied_in, without_copy, IsElsewhere, AreCopies}
 

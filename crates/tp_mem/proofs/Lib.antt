@@ -1,9 +1,12 @@
 pub mod Lower
 pub mod Changes
 pub mod Copies
+pub mod Crosses
+pub mod Frames
 pub mod Kept
 pub mod Outcomes
 pub mod Paged
+pub mod Pools
 pub mod Touches
 pub mod Writes
 pub mod Written

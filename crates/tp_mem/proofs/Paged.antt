@@ -1,6 +1,7 @@
 -- What is true of every memory that copies pages before it writes stays true.
 use Rattle.std.proofs.Common.{◌≡◌, ℕ, zero, suc, ◌+◌, ◌*◌, ◌<◌, ◌≤◌, Bool, true, false, cond, List, [], ◌∷◌, length, Option, Some, None, get_or, set, replicate, refl, sym, ap, subst, ◌∙◌, arith, IsSome, IsNone}
-use Rattle.tp_mem.proofs.Lower.{length-set, length-replicate, MAX_PAGES, PAGE_BYTES, Frames, frame, held_owners, owners_of, free_in, private_in, vacancy, free_in-set}
+use Rattle.tp_mem.proofs.Lower.{length-set, length-replicate, MAX_PAGES, PAGE_BYTES, Frames, frame, held_owners, owners_of, free_in, private_in}
+use Rattle.tp_mem.proofs.Frames.{vacancy, free_in-set}
 use Rattle.tp_mem.specs.Contents.{page_of}
 use Rattle.tp_mem.specs.Copies.{Paged, frozen_of, spare_in, shared_of, copied_in, AreCopies, IsPaged}
 use Rattle.tp_mem.proofs.Copies.{copy_of, AreCopies-with, copied_in-with, shared_of-with, shared_of-thawed, private_in-shared_of, length-shared_of, shared_at, frozen_from-with}

@@ -3,5 +3,6 @@ pub mod After
 pub mod Bytes
 pub mod Contents
 pub mod Copies
+pub mod FreeList
 pub mod Ranges
 pub mod Stored

@@ -5,8 +5,10 @@ ghost use Rattle.tp_mem.specs.Lower.{ForSome, owners_of, free_in};
 ghost use Rattle.tp_mem.specs.Contents.{page_of};
 ghost use Rattle.tp_mem.specs.Copies.{AreCopies, copied_in, without_copy};
 
+use crate::id::FrameId;
+use crate::pool::FramePool;
+use crate::region::Frame;
 use std::alloc::{AllocError, Global};
-use tp_frames::{Frame, FrameId, FramePool};
 use tp_model::limits::PAGE_BYTES;
 
 /// Gives the bytes of a page.

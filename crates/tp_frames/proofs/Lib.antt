@@ -1,4 +1,0 @@
-pub mod Lower
-pub mod Crosses
-pub mod Frames
-pub mod Pools
