@@ -119,8 +119,8 @@ pub use Rattle.tp_area.specs.declared.fault.StoreFault.{StoreFault}
 pub use Rattle.tp_area.specs.declared.fault.StoreFault.TheVariants.{AreaFull, DeviceFailed, DeviceFailed as StoreFailed}
 pub use Rattle.tp_area.specs.declared.place.Place.{Place}
 pub use Rattle.tp_recover.specs.Reading.{LeavesNothingNew}
-pub use Rattle.tp_token.specs.Sound.{Sound, item_of, shown}
 pub use Rattle.tp_ready.specs.Seen.{RaiserValue, RisesOn, risen, unrisen}
+pub use Rattle.tp_ready.specs.Sound.{Sound, item_of, shown}
 pub use Rattle.tp_ready.specs.declared.mark_view.Rise.{Rise}
 pub use Rattle.tp_shared.proofs.Gone.{frozen_since}
 pub use Rattle.tp_shared.proofs.HandedIn.{handed-append}

@@ -52,8 +52,8 @@ pub use Rattle.tp_area.specs.Pieces.{piece_place, place_in_image}
 unfoldable pub use Rattle.tp_area.specs.Places.{place_in}
 pub use Rattle.tp_area.specs.Tails.{IsSpeltTail, TailParts, TailPut, content_beside, place_filled, tail_parts, tail_pieces, tail_refusal}
 pub use Rattle.tp_area.specs.declared.place.Place.{Place}
-pub use Rattle.tp_token.specs.Sound.{item_of, shown}
 pub use Rattle.tp_ready.specs.Seen.{RaiserValue, RisesOn, number_of, risen, unrisen}
+pub use Rattle.tp_ready.specs.Sound.{item_of, shown}
 pub use Rattle.tp_ready.specs.declared.mark_view.Rise.{Rise}
 pub use Rattle.tp_shared.specs.Below.{AreBelow}
 pub use Rattle.tp_shared.specs.CopiedTail.{CopiedTail}

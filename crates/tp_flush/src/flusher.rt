@@ -15,9 +15,9 @@ use tp_area::Store;
 use tp_disk::Disk;
 use tp_net::Topology;
 use tp_ready::Raiser;
+use tp_ready::twin::Key;
 use tp_recover::Opened;
 use tp_shared::{Naming, Sights, Told};
-use tp_token::Key;
 
 /// The parts of a flusher:
 /// - its store, what it was told of the book, the mark's raiser, and the device's topology;

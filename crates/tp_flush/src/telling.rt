@@ -7,8 +7,8 @@ ghost use Rattle.tp_flush.specs.WasTold.{ToldWhere, WasTold};
 use crate::flusher::Flusher;
 use std::sync::Wait;
 use tp_disk::Disk;
+use tp_ready::twin::Key;
 use tp_shared::{Naming, Shared, Sights, Told};
-use tp_token::Key;
 
 /// Tells the book if a call of the device has failed; then the book is seen. `key` shows that, and otherwise what it showed.
 pub(crate) fn tell_where<J: Naming, R: Wait>(

@@ -47,7 +47,7 @@ pub use Rattle.tp_law_device.proofs.Opens.{held_opened, reads_of}
 pub use Rattle.tp_law_device.proofs.ReadCuts.{ports_read}
 pub use Rattle.tp_law_device.proofs.Verdicts.{crash_opens}
 pub use Rattle.tp_book.specs.Ports.{fresh_value}
-pub use Rattle.tp_token.specs.Sound.{add_if, item_of, shown}
+pub use Rattle.tp_ready.specs.Sound.{add_if, item_of, shown}
 pub use Rattle.tp_shared.proofs.BytesIn.{bytes_in-append, bytes_in-handed, bytes_in-other, bytes_in-same}
 pub use Rattle.tp_shared.specs.BytesIn.{byte_in, bytes_in}
 pub use Rattle.tp_shared.specs.HandedIn.{handed}

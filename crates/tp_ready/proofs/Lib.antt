@@ -1,5 +1,11 @@
 pub mod Lower
 pub mod Calling
 pub mod Dealing
+pub mod Entries
+pub mod Gathered
+pub mod Lent
+pub mod Rolls
 pub mod Steps
+pub mod Twins
+pub mod Walks
 pub mod Weights

@@ -3,6 +3,8 @@ pub mod Answered
 pub mod Holding
 pub mod MarkView
 pub mod Numbers
+pub mod Owned
 pub mod Past
 pub mod Seen
+pub mod Sound
 pub mod View

@@ -4,9 +4,9 @@ ghost use Rattle.tp_ready.specs.Answered.{answer};
 ghost use Rattle.tp_ready.specs.declared.answers.Answer.{Answer};
 
 use crate::queue::ReadyQueue;
+use crate::twin::{Seal, pair};
 use std::collections::LinkedList;
 use std::marker::Model;
-use tp_token::{Seal, pair};
 
 /// What a queue answered: the number that it handed out, or `None` if it was empty. No value of it is made.
 pub struct Answer {

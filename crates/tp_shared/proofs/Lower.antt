@@ -107,6 +107,6 @@ unfoldable pub use Rattle.tp_turn.specs.Turns.{InOrder}
 pub use Rattle.tp_turn.specs.declared.left.Left.{Left}
 pub use Rattle.tp_turn.specs.declared.opened.Opened.{Opened}
 pub use Rattle.tp_turn.specs.declared.opened.Opened.TheVariants.{Apart, Whole}
-pub use Rattle.tp_token.specs.Sound.{Sound, item_of}
-pub use Rattle.tp_token.specs.declared.roll.Roll.{Roll}
-pub use Rattle.tp_token.specs.declared.twin.Seal.{Seal}
+pub use Rattle.tp_ready.specs.Sound.{Sound, item_of}
+pub use Rattle.tp_ready.specs.declared.roll.Roll.{Roll}
+pub use Rattle.tp_ready.specs.declared.twin.Seal.{Seal}

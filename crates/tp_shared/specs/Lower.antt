@@ -65,7 +65,7 @@ pub use Rattle.tp_turn.specs.Over.{ClosesAll}
 pub use Rattle.tp_turn.specs.Settled.{Records}
 pub use Rattle.tp_turn.specs.declared.opened.Opened.{Opened}
 pub use Rattle.tp_turn.specs.declared.opened.Opened.TheVariants.{Apart, Whole}
-pub use Rattle.tp_token.specs.Sound.{Sound, item_of}
-pub use Rattle.tp_token.specs.declared.roll.Roll.{Roll}
-pub use Rattle.tp_token.specs.declared.twin.Seal.{Seal}
 pub use Rattle.tp_ready.specs.Seen.{MarkName}
+pub use Rattle.tp_ready.specs.Sound.{Sound, item_of}
+pub use Rattle.tp_ready.specs.declared.roll.Roll.{Roll}
+pub use Rattle.tp_ready.specs.declared.twin.Seal.{Seal}

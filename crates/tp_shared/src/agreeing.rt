@@ -9,7 +9,7 @@ use crate::host_key::HostKey;
 use crate::locked::Locked;
 use crate::naming::Naming;
 use crate::told::Told;
-use tp_token::{Key, agree};
+use tp_ready::twin::{Key, agree};
 
 impl<J: Naming> Locked<J> {
     /// Proves that acts, none of them a trim, lead from what the flusher was last told, which `key` shows, to the book as it is. It changes

@@ -14,7 +14,7 @@ use crate::pieces::{drop_of, head_of, pages_of};
 use crate::told::Told;
 use std::sync::{Mutex, Wait};
 use tp_model::limits::{IMAGE_HEAD_BYTES, PAGE_BYTES};
-use tp_token::Key;
+use tp_ready::twin::Key;
 
 impl<const I: usize, J: Naming> Cell<I, J> {
     /// Gives the head of the image of the node `number` of this cell.

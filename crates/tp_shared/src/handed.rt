@@ -6,7 +6,7 @@ ghost use Rattle.tp_shared.specs.HandedIn.{handed};
 
 use std::marker::Model;
 use tp_book::Book;
-use tp_token::Key;
+use tp_ready::twin::Key;
 
 /// The entries of what the host has handed in since the opening, in order. It has no bytes: only contracts see it.
 #[derive(Drop)]

@@ -13,7 +13,7 @@ use crate::naming::Naming;
 use crate::seat::Seat;
 use crate::write::write_new;
 use tp_book::{Receipt, Refusal};
-use tp_token::turn;
+use tp_ready::twin::turn;
 use tp_turn::host_turn;
 
 impl<J: Naming> Locked<J> {

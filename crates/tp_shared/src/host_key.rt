@@ -5,7 +5,7 @@ ghost use Rattle.std.specs.Prelude.{◌≡◌};
 use crate::handed::Handed;
 use crate::naming::Naming;
 use std::marker::{Model, PhantomData};
-use tp_token::Key;
+use tp_ready::twin::Key;
 
 /// The host's right to hand in bytes and to confirm outputs. A network has one, and nobody can copy it. Contracts see the entries of all
 /// that was handed in since the opening, in order. It has no bytes.

@@ -24,7 +24,8 @@ use std::marker::{Model, PhantomData};
 use tp_book::{Book, Refusal};
 use tp_model::Entry;
 use tp_node::Ran;
-use tp_token::{Roll, Seal, agree, turn};
+use tp_ready::roll::Roll;
+use tp_ready::twin::{Seal, agree, turn};
 use tp_turn::{Opened, Stretch};
 
 /// What is under the book's lock:

@@ -18,7 +18,8 @@ use tp_book::Book;
 use tp_model::Entry;
 use tp_node::Node;
 use tp_ready::Mark;
-use tp_token::{Key, Roll, Seal, pair, start, turn};
+use tp_ready::roll::{Roll, start};
+use tp_ready::twin::{Key, Seal, pair, turn};
 
 /// What isn't under locks yet: a book, its nodes, their seals and keys, the roll of its entries, and the mark. Then both halves of what the
 /// flusher is told and of what the host hands in, and the roll of what is seen of the book.

@@ -17,7 +17,7 @@ use crate::told::Told;
 use std::sync::{Mutex, Wait};
 use tp_model::limits::{IMAGE_HEAD_BYTES, PAGE_BYTES};
 use tp_node::Node;
-use tp_token::{Key, agree, turn};
+use tp_ready::twin::{Key, agree, turn};
 
 impl<J: Naming> Locked<J> {
     /// Proves that the node is the one that the book has. It is frozen if pages of it are kept; then it is as the book has it recorded in

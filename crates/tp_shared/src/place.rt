@@ -2,7 +2,7 @@
 
 use crate::shown::Shown;
 use tp_node::Node;
-use tp_token::Key;
+use tp_ready::twin::Key;
 
 /// A node under its lock, with its key.
 #[derive(Drop)]

@@ -13,7 +13,7 @@ use crate::place::Place;
 use crate::recorded::Recorded;
 use crate::shown::Shown;
 use crate::sights::Sights;
-use tp_token::{agree, turn};
+use tp_ready::twin::{agree, turn};
 
 impl<J: Naming> Locked<J> {
     /// Lets the node record, if it is asked to. It takes nothing, and nothing runs. Answers whether it recorded.

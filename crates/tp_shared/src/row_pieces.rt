@@ -14,7 +14,7 @@ use crate::soon::lock_soon;
 use crate::told::Told;
 use std::sync::{Mutex, Wait};
 use tp_model::limits::{IMAGE_HEAD_BYTES, PAGE_BYTES};
-use tp_token::Key;
+use tp_ready::twin::Key;
 
 impl<const A: usize, const B: usize, const C: usize, const D: usize, J: Naming> Row<A, B, C, D, J> {
     /// Gives the head of the image of the node `number` of this row.

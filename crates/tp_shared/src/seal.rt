@@ -1,7 +1,7 @@
 //! Seals of nodes.
 
 use crate::shown::Shown;
-use tp_token::Seal;
+use tp_ready::twin::Seal;
 
 /// The seal of a node, which is under the book's lock, and whether the node is frozen.
 #[derive(Drop)]

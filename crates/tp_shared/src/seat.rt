@@ -6,7 +6,7 @@ ghost use Rattle.tp_shared.specs.SlipCount.{IsSlipCount};
 use crate::naming::Naming;
 use std::marker::{Model, PhantomData};
 use tp_model::Entry;
-use tp_token::{Slips, empty, transfer};
+use tp_ready::slips::{Slips, empty, transfer};
 
 /// The slips of entries, in the order in which they came, and how many there are. Contracts see each as its number and its entry. Nobody
 /// can copy one, and nobody who shares a network with others can make one. Each call that makes entries is lent a seat, and its contract

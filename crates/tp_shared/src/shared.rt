@@ -29,7 +29,7 @@ use std::sync::{Mutex, Wait};
 use tp_book::Refusal;
 use tp_node::Runs;
 use tp_ready::Mark;
-use tp_token::{Key, turn};
+use tp_ready::twin::{Key, turn};
 
 // Does what the host's turn does in its hold of the book's lock.
 fn host_hold<J: Naming, R: Wait>(

@@ -11,7 +11,7 @@ use crate::shared::Shared;
 use crate::told::Told;
 use std::sync::Wait;
 use tp_model::limits::{IMAGE_HEAD_BYTES, PAGE_BYTES};
-use tp_token::Key;
+use tp_ready::twin::Key;
 
 impl<J: Naming> Shared<J> {
     /// Copies the bytes before the memory in the image of the node `number`, as it recorded in the snapshot that runs. False exactly if no

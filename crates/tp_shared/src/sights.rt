@@ -8,7 +8,8 @@ use crate::naming::Naming;
 use std::marker::{Model, PhantomData};
 use std::snapshot::Snapshot;
 use tp_book::Book;
-use tp_token::{Roll, Slips, empty, write};
+use tp_ready::roll::{Roll, write};
+use tp_ready::slips::{Slips, empty};
 
 /// The roll of all that was seen of the book, beside the book.
 #[derive(Drop)]

@@ -8,7 +8,7 @@ use crate::naming::Naming;
 use crate::told::Told;
 use std::alloc::Global;
 use tp_book::Refusal;
-use tp_token::{Key, turn};
+use tp_ready::twin::{Key, turn};
 use tp_turn::close_all;
 
 impl<J: Naming> Locked<J> {

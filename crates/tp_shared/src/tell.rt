@@ -6,7 +6,7 @@ ghost use Rattle.tp_shared.specs.Told.{ToldSince, told_of};
 use crate::locked::Locked;
 use crate::naming::Naming;
 use crate::told::Told;
-use tp_token::{Key, turn};
+use tp_ready::twin::{Key, turn};
 
 impl<J: Naming> Locked<J> {
     /// Lets `key` show what is told of the book as it is.

@@ -7,7 +7,7 @@ use crate::locked::Locked;
 use crate::naming::Naming;
 use crate::parts::Parts;
 use std::marker::Model;
-use tp_token::Key;
+use tp_ready::twin::Key;
 
 /// What the flusher is told. It has no bytes: only contracts see it.
 /// - a network with its book, how many entries the kept cut holds, and the journal;

@@ -1,7 +1,7 @@
 //! Whether a seat has all slips.
 
 ghost use Rattle.std.specs.Prelude.{◌≡◌, ℕ, ◌==◌, length, true};
-ghost use Rattle.tp_token.specs.Sound.{shown, item_of};
+ghost use Rattle.tp_ready.specs.Sound.{shown, item_of};
 
 use crate::locked::Locked;
 use crate::naming::Naming;

@@ -64,8 +64,8 @@ pub use Rattle.tp_area.specs.declared.journal.JournalRoom.{JournalRoom}
 pub use Rattle.tp_recover.proofs.Leaving.{none_leaves}
 pub use Rattle.tp_recover.specs.Reading.{LeavesNothingNew, has_read}
 pub use Rattle.tp_recover.specs.declared.unopened.Unopened.{Unopened}
-pub use Rattle.tp_token.specs.Sound.{item_of, shown}
 pub use Rattle.tp_ready.specs.Seen.{RaiserValue}
+pub use Rattle.tp_ready.specs.Sound.{item_of, shown}
 pub use Rattle.tp_shared.proofs.BytesIn.{bytes_in-append, bytes_in-handed, bytes_in-other, bytes_in-same}
 pub use Rattle.tp_shared.specs.Accepted.{HaveAccepted}
 pub use Rattle.tp_shared.specs.BytesIn.{bytes_in}

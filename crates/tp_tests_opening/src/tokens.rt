@@ -1,7 +1,9 @@
 //! Tokens as the program runs.
 
 use tp_model::Entry;
-use tp_token::{Key, Roll, Seal, Slips};
+use tp_ready::roll::Roll;
+use tp_ready::slips::Slips;
+use tp_ready::twin::{Key, Seal};
 
 /// Tokens have no bytes.
 #[test]

@@ -1,7 +1,7 @@
 //! Workers that make turns together, and what they journalled.
 
 ghost use Rattle.std.specs.Prelude.{◌≡◌, [], ◌++◌, IsTrue, Some, All, ℕ};
-ghost use Rattle.tp_token.specs.Sound.{item_of, shown};
+ghost use Rattle.tp_ready.specs.Sound.{item_of, shown};
 
 use std::alloc::AllocError;
 use std::sync::Wait;

@@ -10,9 +10,9 @@ use crate::seat::Seat;
 use std::alloc::{AllocError, Global};
 use std::sync::Wait;
 use tp_node::Runs;
+use tp_ready::twin::Key;
 use tp_ready::{Answers, Hand, ReadyQueue};
 use tp_shared::{Gate, HostKey, Naming, Parts, Shared, Sights, Told};
-use tp_token::Key;
 
 /// The most seats of a network.
 pub const MAX_SEATS: u8 = 32;

@@ -1,5 +1,5 @@
 use Rattle.std.proofs.Common.{subst}
-use Rattle.tp_token.specs.Sound.{Sound, item_of}
+use Rattle.tp_ready.specs.Sound.{Sound, item_of}
 use Rattle.tp_shared.specs.Seals.{IsTied}
 use Rattle.tp_shared.proofs.locked.Locked.audit.Goals as goal
 

@@ -1,5 +1,0 @@
-use Rattle.std.proofs.Common.{◌+◌, length}
-use Rattle.tp_token.proofs.slips.transfer.Given as goal
-
-abbrev pub ghost-deal : goal.ghost-deal
-ghost-deal g a = length a.one.now.items + length a.two.now.items

@@ -1,7 +1,0 @@
--- Its half of a name is of no thread.
-use denote.RattleType.{RattleType}
-use denote.Param.Send.{IsSend}
-use Rattle.tp_token.specs.contracts.twin.Seal.{the_row}
-
-pub send : (T : RattleType) → IsSend (the_row T)
-send T = record { owned = λ d vs. ((λ vss. (tt, ((λ uss. (tt, tt)), tt))), tt); leaving = λ k f vs. tt }

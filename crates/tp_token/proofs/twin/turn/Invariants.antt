@@ -1,4 +1,0 @@
-use Rattle.tp_token.proofs.twin.turn.Given as goal
-
-abbrev pub ghost-set : goal.ghost-set
-ghost-set g a = a._by.now

@@ -1,3 +1,0 @@
-pub mod Lower
-pub mod Owned
-pub mod Sound
