@@ -29,7 +29,7 @@ if [ ! -e "$work/built" ]; then
     done
     "$top/bench/with-disk" "$work/crates/bench_journal"
     echo "mod Numbered" > "$work/crates/bench_journal/proofs/Lib.antt"
-    echo "bench_journal: tp_area tp_disk tp_entry tp_model tp_recover" >> "$work/crates.txt"
+    echo "bench_journal: tp_area tp_disk tp_net tp_model tp_recover" >> "$work/crates.txt"
     (cd "$work/crates/bench_journal" && rt run > "$work/build.log" 2>&1) || true
     [ -x "$proved" ] || { tail -20 "$work/build.log"; exit 1; }
     touch "$work/built"

@@ -5,10 +5,9 @@ ghost use Rattle.tp_area.specs.Lower.{AREA_HEAD_BYTES, fits_device, cut_length, 
 
 use crate::journal::{JournalRoom, reserve};
 use crate::room::cut_length;
-use tp_entry::ENTRY_ROOM;
 use tp_model::TwoAreas;
 use tp_model::limits::AREA_HEAD_BYTES;
-use tp_net::Topology;
+use tp_net::{ENTRY_ROOM, Topology};
 
 /// Gives how many bytes an area needs for `entries` entries that anyone may make, each in a group of its own.
 pub fn area_for(topology: &Topology, entries: u64) -> u64

@@ -63,6 +63,6 @@ pub use snap_cut::Cut;
 pub use snapshots::Snapshots;
 pub use state::NetState;
 pub use tail::Tail;
-pub use tp_entry::Numbered;
 pub use tp_law_network::{cuts_hold, swaps_agree};
+pub use tp_net::Numbered;
 pub use trace::{Image, Trace};

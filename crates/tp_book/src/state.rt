@@ -2,8 +2,8 @@
 
 use crate::cut::CutNetwork;
 use crate::parts::NetParts;
-use tp_entry::Numbered;
 use tp_model::Form;
+use tp_net::Numbered;
 
 /// What an opened device holds. Opening writes it once.
 #[derive(Drop)]

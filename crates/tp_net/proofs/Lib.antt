@@ -10,3 +10,6 @@ pub mod Shapes
 pub mod Topologies
 pub mod Wires
 pub mod Marked
+pub mod Chunks
+pub mod Runs
+pub mod Written

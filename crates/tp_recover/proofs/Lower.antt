@@ -92,8 +92,8 @@ pub use Rattle.tp_law_device.proofs.Replays.{entry_found}
 pub use Rattle.tp_law_device.proofs.UnmarkedLines.{lines_unmarked, plain_lines}
 pub use Rattle.tp_node.proofs.Answered.{image_read}
 pub use Rattle.tp_node.specs.NodeContents.{NodeContents}
+pub use Rattle.tp_net.proofs.Runs.{run_in_row}
 pub use Rattle.tp_net.proofs.Topologies.{HasShape, has_shape}
-pub use Rattle.tp_entry.proofs.Runs.{run_in_row}
 pub use Rattle.tp_book.proofs.OpenedPorts.{opened_ports}
 pub use Rattle.tp_book.specs.Counted.{AreCounted, IsCounted}
 pub use Rattle.tp_book.specs.Joined.{FitsRoom}

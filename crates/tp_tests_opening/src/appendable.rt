@@ -3,8 +3,9 @@
 ghost use Rattle.std.specs.Prelude.{◌≡◌, true};
 ghost use Rattle.tp_tests_opening.specs.Lower.{AllByRecursion, is_in_range, is_of};
 
-use tp_entry::{is_in_range, is_of};
 use tp_model::{Entry, Form};
+use tp_net::entry::is_of;
+use tp_net::is_in_range;
 
 /// Whether `entries` can be written, and an area of form `form` may hold each.
 pub(crate) fn are_appendable(form: Form, entries: &[Entry]) -> bool

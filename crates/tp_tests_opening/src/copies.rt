@@ -11,10 +11,9 @@ use std::alloc::{AllocError, Global};
 use tp_area::{Store, StoreFault};
 use tp_book::{Numbered, PortParts};
 use tp_disk::{Disk, MemDisk};
-use tp_entry::is_in_range;
 use tp_model::limits::{IMAGE_HEAD_BYTES, MAX_HELD, PAGE_BYTES};
 use tp_model::{NetFault, Token, WireEnd};
-use tp_net::{Lines, Topology};
+use tp_net::{Lines, Topology, is_in_range};
 use tp_tests_fixtures::ONE_NODE;
 
 /// The pages of the node.

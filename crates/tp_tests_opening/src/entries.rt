@@ -1,11 +1,12 @@
 //! Entries and their bytes, turns among them.
 
-use tp_entry::{BadEntry, Numbered, get, get_row, is_in_range, number_of, put};
 use tp_model::Entry;
 use tp_model::Form::{Plain, Turns};
 use tp_model::Received::{AckThenData, DataThenAck, JustAck, JustData, Nothing};
 use tp_model::Token::{Ack, Data};
 use tp_model::limits::NUMBER_LIMIT;
+use tp_net::entry::{BadEntry, get, get_row, number_of, put};
+use tp_net::{Numbered, is_in_range};
 
 /// An entry, its number, and their bytes; and whether an area without turns may hold it.
 type Spelling = (Entry, u64, [u8; 16], bool);

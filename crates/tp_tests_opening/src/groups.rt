@@ -1,9 +1,10 @@
 //! Groups of entries and their bytes.
 
 use std::alloc::{AllocError, Global};
-use tp_entry::{BadEntry, Numbered, get, put_group_body, read_group};
 use tp_model::Token::Ack;
 use tp_model::{BadGroup, Entry};
+use tp_net::entry::{BadEntry, get};
+use tp_net::{Numbered, put_group_body, read_group};
 
 /// A group of one entry, number 7, a run of 5 steps of node 0; and the next gate, closed.
 const ONE_ENTRY: [u8; 33] = [
