@@ -104,7 +104,7 @@ pub use Rattle.tp_net.proofs.Topologies.{end_number-bound, has_shape}
 pub use Rattle.tp_net.specs.Parts.{if_topology, parts}
 pub use Rattle.tp_net.specs.declared.ends.TheConstants.{MAX_LINES}
 pub use Rattle.tp_book.specs.PortParts.{port_made}
-pub use Rattle.tp_book.specs.declared.port_parts.PortParts.{PortParts}
+pub use Rattle.tp_book.specs.declared.ports.port_parts.PortParts.{PortParts}
 pub use Rattle.tp_disk.proofs.Agree.{inside_written, same_apart, same_in, same_refl, same_sym, same_trans, same_wider}
 pub use Rattle.tp_disk.proofs.Calls.{AllWithin, all_done-append, and_then, broke_first, broke_later, broke_one, call_leaves, called_one, called_then, calls_leave, same_outside_write, started, synced_stands, weaker, written_through}
 pub use Rattle.tp_disk.proofs.Moments.{length-written, outside_last, written_same_outside}

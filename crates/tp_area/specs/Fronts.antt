@@ -1,8 +1,8 @@
 -- The bytes before an area's cut image.
 use Rattle.std.specs.Prelude.{ℕ, ◌+◌, List, ◌++◌, Result, Ok}
 use Rattle.tp_area.specs.Lower.{Form, OpenFault, ◌>>=◌, u8_at, u32_bytes, u64_at, u64_bytes, base_number, generation_of, is_open, base_of, front_in, Topology}
-use Rattle.tp_area.specs.declared.front.AreaFront.{AreaFront}
-use Rattle.tp_area.specs.declared.front.CutFront.{CutFront}
+use Rattle.tp_area.specs.declared.encoding.front.AreaFront.{AreaFront}
+use Rattle.tp_area.specs.declared.encoding.front.CutFront.{CutFront}
 
 -- the gate and the generation of the area that begins here
 abbrev pub area_front : ℕ → List ℕ → AreaFront

@@ -1,8 +1,8 @@
 -- The tokens on a line of a cut.
 use Rattle.std.specs.Prelude.{List, [], ◌∷◌}
 use Rattle.tp_area.specs.Lower.{Token, Byte, Answer}
-use Rattle.tp_area.specs.declared.line.LineTokens.{LineTokens}
-use Rattle.tp_area.specs.declared.line.LineTokens.TheVariants.{Empty, Data, Ack, DataAck, AckData}
+use Rattle.tp_area.specs.declared.encoding.line.LineTokens.{LineTokens}
+use Rattle.tp_area.specs.declared.encoding.line.LineTokens.TheVariants.{Empty, Data, Ack, DataAck, AckData}
 
 abbrev pub tokens_on : LineTokens → List Token
 tokens_on Empty = []

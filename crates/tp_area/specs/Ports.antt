@@ -1,7 +1,7 @@
 -- The record of a port, whether it is valid or not, and the port that it says.
 use Rattle.std.specs.Prelude.{ℕ, ◌+◌, ◌-◌, Bool, ◌&&◌, ◌==◌, nat_le, List, take, drop, bytes_eq}
 use Rattle.tp_area.specs.Lower.{list_all, MAX_HELD, PORT_BYTES, u64_at, Port, is_port_of, port_at, port_bytes}
-use Rattle.tp_area.specs.declared.port.PortRecord.{PortRecord}
+use Rattle.tp_area.specs.declared.encoding.port.PortRecord.{PortRecord}
 
 -- the port that a record says
 abbrev pub port_said : PortRecord → Port

@@ -3,7 +3,7 @@
 ghost use Rattle.std.specs.Prelude.{◌≡◌};
 ghost use Rattle.tp_model.specs.Head.{ends_place};
 
-use crate::version::head_nodes;
+use crate::encoding::version::head_nodes;
 use tp_model::HeadVersion;
 
 /// The version, after the bytes that a formatted device begins with.

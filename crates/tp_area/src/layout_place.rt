@@ -4,9 +4,9 @@ ghost use Rattle.std.specs.Prelude.{◌≡◌, ◌+◌, ◌^◌, ◌<◌, ◌≤
 ghost use Rattle.tp_area.specs.Lower.{area_start, areas_of_length, groups_place, lines_place, nodes_place, ports_place, is_topology, MAX_PAGES};
 ghost use Rattle.tp_area.specs.Pieces.{piece_place};
 
-use crate::front::FIELDS_BYTES;
+use crate::encoding::front::FIELDS_BYTES;
+use crate::encoding::version::head_length;
 use crate::room::{cut_length, images_bytes, images_length};
-use crate::version::head_length;
 use tp_model::limits::{AREA_HEAD_BYTES, IMAGE_HEAD_BYTES, LINE_BYTES, PAGE_BYTES};
 use tp_model::{HeadVersion, TwoAreas};
 use tp_net::Topology;

@@ -2,7 +2,7 @@
 use Rattle.std.proofs.Common.{◌≡◌, ℕ, ◌+◌, ◌-◌, ◌<◌, ◌≤◌, cond, List, [], ◌∷◌, ◌++◌, length, map, set, drop, refl, sym, ap, subst, ◌∙◌, arith, Some, slice_get, length-set}
 use Rattle.std.specs.Prelude.{Vec, vec_len, vec_capacity, nat_lt, nat_le, ◌&&◌}
 use Rattle.tp_book.proofs.Lower.{option_map, Global, lt-leb, map-set, length-drop, slice_get-map, get_or_from_slice_get, Entry, Token, Confirm, NUMBER_LIMIT, NodeState, Port, OfHost, put, has_wire, taken, sent, process, takes, confirmed, does, BookState, without, with_half, cond_some, slice_get_within}
-use Rattle.tp_book.specs.declared.port.HostPort.{HostPort}
+use Rattle.tp_book.specs.declared.ports.port.HostPort.{HostPort}
 use Rattle.tp_book.specs.declared.journal.Journal.TheInside.{Inside}
 use Rattle.tp_book.specs.Kept.{BookKeeps}
 use Rattle.tp_book.specs.Counted.{IsCounted, AreCounted}

@@ -2,7 +2,7 @@
 use Rattle.std.proofs.Common.{◌≡◌, ℕ, ◌+◌, ◌<◌, ◌≤◌, false, inl, inr, List, [], ◌∷◌, length, map, get_or, replicate, refl, sym, ap, subst, ◌∙◌, arith, Some, None, slice_get, zero, suc}
 use Rattle.std.specs.Prelude.{vec_len, count_by, Vec}
 use Rattle.tp_book.proofs.Lower.{option_map, Global, slice_get-map, slice_get-get_or, get_or_from_slice_get, cases_Bool, length-map, length-replicate, Entry, NodeState, t414, t414_ends, Token, node_at, Network, on_line, AreOf, AreNumbered, after, Sound, is_marker, plain, markers, plain_network, BookState, live, SameShape, after_shape, sound_small, length-kinds, on_line-plain, has_four_links, Port}
-use Rattle.tp_book.specs.declared.port_parts.PortParts.{PortParts}
+use Rattle.tp_book.specs.declared.ports.port_parts.PortParts.{PortParts}
 use Rattle.tp_book.proofs.OpenedPorts.{opened_ports}
 use Rattle.tp_book.specs.declared.state.NetState.{NetState}
 use Rattle.tp_book.specs.declared.journal.Journal.TheInside.{Inside}

@@ -1,6 +1,6 @@
 -- The ports of an opened state.
 use Rattle.std.proofs.Common.{◌≡◌, List, [], ◌∷◌, map, refl, ap}
-use Rattle.tp_book.specs.declared.port_parts.PortParts.{PortParts}
+use Rattle.tp_book.specs.declared.ports.port_parts.PortParts.{PortParts}
 use Rattle.tp_book.specs.PortParts.{port_made}
 use Rattle.tp_book.specs.Ports.{opened_port}
 

@@ -1,6 +1,6 @@
 -- A port as its parts.
 use Rattle.tp_model.specs.Network.{Port}
-use Rattle.tp_book.specs.declared.port_parts.PortParts.{PortParts}
+use Rattle.tp_book.specs.declared.ports.port_parts.PortParts.{PortParts}
 
 -- the port that the parts are
 abbrev pub port_made : PortParts → Port

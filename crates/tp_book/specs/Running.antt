@@ -1,7 +1,7 @@
 -- A running snapshot as its fields.
 use Rattle.std.specs.Prelude.{◌≡◌, ℕ, Bool, if◌then◌else◌, List, [], ◌∷◌, length, Option, Some, None}
 use Rattle.tp_model.specs.Snapshot.{Snapshot}
-use Rattle.tp_book.specs.declared.running.Running.TheInside.{Inside}
+use Rattle.tp_book.specs.declared.cuts.running.Running.TheInside.{Inside}
 
 -- what is known of each process: its count, if it has recorded
 abbrev pub counts_of : List Bool → List ℕ → List (Option ℕ)

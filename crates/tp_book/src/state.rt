@@ -1,6 +1,6 @@
 //! The state that opening a device leaves.
 
-use crate::cut::CutNetwork;
+use crate::cuts::cut::CutNetwork;
 use crate::parts::NetParts;
 use tp_model::Form;
 use tp_net::Numbered;

@@ -134,5 +134,5 @@ pub use Rattle.tp_shared.specs.Pieces.{AreFrozenPages, IsFrozenHead, IsFrozenPag
 pub use Rattle.tp_shared.specs.Seals.{IsTied, Stage}
 pub use Rattle.tp_shared.specs.Told.{IsFirst, ToldSince, grown_all, told_of}
 pub use Rattle.tp_shared.specs.TrimmedTo.{TrimmedTo}
-pub use Rattle.tp_shared.specs.declared.tail.TailCopy.{TailCopy}
-pub use Rattle.tp_shared.specs.declared.told.Told.{Told}
+pub use Rattle.tp_shared.specs.declared.flusher.tail.TailCopy.{TailCopy}
+pub use Rattle.tp_shared.specs.declared.flusher.told.Told.{Told}

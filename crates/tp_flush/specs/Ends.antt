@@ -3,7 +3,7 @@ use Rattle.std.specs.Prelude.{◌≡◌, ◌≤◌, ◌⊎◌, ℕ, ◌+◌, Boo
 use Rattle.tp_flush.specs.Lower.{NodeState, IsFrozenAs, Resting, Broken}
 use Rattle.tp_flush.specs.declared.fault.FlushFault.{FlushFault}
 use Rattle.tp_flush.specs.declared.fault.FlushFault.TheVariants.{AreaFull, DeviceFailed, Memory, StoreBroken}
-use Rattle.tp_flush.specs.declared.checkpoint.Checkpoint.{Checkpoint}
+use Rattle.tp_flush.specs.declared.steps.checkpoint.Checkpoint.{Checkpoint}
 use Rattle.tp_flush.specs.Flushing.{Flushing, OnlyLooked}
 
 -- No call of the device has failed.

@@ -63,6 +63,6 @@ pub use Rattle.tp_shared.specs.Parted.{PartsValue}
 pub use Rattle.tp_shared.specs.Pieces.{AreFrozenPages, IsFrozenHead}
 pub use Rattle.tp_shared.specs.Told.{IsFirst, ToldSince}
 pub use Rattle.tp_shared.specs.TrimmedTo.{TrimmedTo}
-pub use Rattle.tp_shared.specs.declared.look.Look.{Look}
-pub use Rattle.tp_shared.specs.declared.tail.TailCopy.{TailCopy}
-pub use Rattle.tp_shared.specs.declared.told.Told.{Told}
+pub use Rattle.tp_shared.specs.declared.book.look.Look.{Look}
+pub use Rattle.tp_shared.specs.declared.flusher.tail.TailCopy.{TailCopy}
+pub use Rattle.tp_shared.specs.declared.flusher.told.Told.{Told}

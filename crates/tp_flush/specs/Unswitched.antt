@@ -5,7 +5,7 @@ use Rattle.tp_flush.specs.declared.fault.FlushFault.{FlushFault}
 use Rattle.tp_flush.specs.declared.imaged.Images.{Images}
 use Rattle.tp_flush.specs.declared.imaged.Images.TheVariants.{NoSnapshot}
 use Rattle.tp_flush.specs.declared.progress.Progress.{Progress}
-use Rattle.tp_flush.specs.declared.switching.Switch.{Switch}
+use Rattle.tp_flush.specs.declared.steps.switching.Switch.{Switch}
 use Rattle.tp_flush.specs.declared.unswitched.Unswitched.{Unswitched}
 use Rattle.tp_flush.specs.declared.unswitched.Unswitched.TheVariants.{ImageMissing, LastGeneration, CutOpen, PagesKept}
 use Rattle.tp_flush.specs.Progress.{is_out}

@@ -19,12 +19,12 @@ pub use Rattle.tp_area.proofs.OpenedPlace.{opening_place}
 pub use Rattle.tp_area.proofs.OtherArea.{own_open}
 pub use Rattle.tp_area.proofs.Placed.{is_placed, place_lies}
 pub use Rattle.tp_area.specs.Places.{place_at}
-pub use Rattle.tp_area.specs.declared.front.AreaFront.{AreaFront}
+pub use Rattle.tp_area.specs.declared.encoding.front.AreaFront.{AreaFront}
 pub use Rattle.tp_recover.proofs.Areas.{generation_of-content}
 pub use Rattle.tp_recover.proofs.Leaving.{then_leaves}
 pub use Rattle.tp_recover.specs.Copies.{AskedLast, CopyAnswer, HasStayed, IsCopy, area_kept, kept_start}
 pub use Rattle.tp_recover.specs.Reading.{LeavesNothingNew}
-pub use Rattle.tp_recover.specs.declared.copying.Copied.{Copied}
+pub use Rattle.tp_recover.specs.declared.copy.copying.Copied.{Copied}
 pub use Rattle.tp_recover.specs.declared.unopened.Unopened.{Unopened}
 pub use Rattle.tp_stream_files.specs.Any.{path_from}
 pub use Rattle.tp_stream_files.specs.Inputs.{GivenInput, NamedInput, given_input, named_input}

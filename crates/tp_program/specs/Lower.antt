@@ -29,9 +29,9 @@ pub use Rattle.tp_area.specs.Formatting.{Formatted, IsOldOrNew}
 pub use Rattle.tp_area.specs.Rights.{Copies, Formats}
 pub use Rattle.tp_recover.specs.Copies.{AskedLast, CopyAnswer, HasStayed, IsCopy, area_kept}
 pub use Rattle.tp_recover.specs.Reading.{LeavesNothingNew}
-pub use Rattle.tp_recover.specs.declared.asked.AreaAsked.{AreaAsked}
-pub use Rattle.tp_recover.specs.declared.fault.CopyFault.{CopyFault}
-pub use Rattle.tp_recover.specs.declared.fault.CopyFault.TheVariants.{DeviceFailed as NotWritten, Memory as NoMemory, ReadFailed as NotRead}
+pub use Rattle.tp_recover.specs.declared.copy.fault.CopyFault.{CopyFault}
+pub use Rattle.tp_recover.specs.declared.copy.fault.CopyFault.TheVariants.{DeviceFailed as NotWritten, Memory as NoMemory, ReadFailed as NotRead}
+pub use Rattle.tp_recover.specs.declared.reading.asked.AreaAsked.{AreaAsked}
 pub use Rattle.tp_recover.specs.declared.unopened.Unopened.{Unopened}
 pub use Rattle.tp_work.specs.declared.start.TheConstants.{MAX_WORKERS}
 pub use Rattle.tp_flush.specs.Known.{Began}

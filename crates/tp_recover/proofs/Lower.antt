@@ -101,7 +101,7 @@ pub use Rattle.tp_book.specs.Kept.{AreInRange}
 pub use Rattle.tp_book.specs.Opened.{IsWellOpen, cut_of, now_of}
 pub use Rattle.tp_book.specs.PortParts.{port_made}
 pub use Rattle.tp_book.specs.Ports.{PortValue, opened_port}
-pub use Rattle.tp_book.specs.declared.port_parts.PortParts.{PortParts}
+pub use Rattle.tp_book.specs.declared.ports.port_parts.PortParts.{PortParts}
 pub use Rattle.tp_book.specs.declared.state.NetState.{NetState}
 pub use Rattle.tp_replay.proofs.Counted.{counted_next}
 pub use Rattle.tp_replay.proofs.Counting.{counted_room}
@@ -133,8 +133,8 @@ pub use Rattle.tp_area.specs.Lines.{tokens_on}
 pub use Rattle.tp_area.specs.Places.{place_at}
 pub use Rattle.tp_area.specs.Ports.{port_said as record_of}
 pub use Rattle.tp_area.specs.Tails.{tail_refusal}
-pub use Rattle.tp_area.specs.declared.front.AreaFront.{AreaFront}
-pub use Rattle.tp_area.specs.declared.front.CutFront.{CutFront}
+pub use Rattle.tp_area.specs.declared.encoding.front.AreaFront.{AreaFront}
+pub use Rattle.tp_area.specs.declared.encoding.front.CutFront.{CutFront}
+pub use Rattle.tp_area.specs.declared.encoding.line.LineTokens.{LineTokens}
 pub use Rattle.tp_area.specs.declared.layout_place.Places.{Places}
-pub use Rattle.tp_area.specs.declared.line.LineTokens.{LineTokens}
 pub use Rattle.tp_area.specs.declared.place.Place.{Place}

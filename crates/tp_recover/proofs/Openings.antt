@@ -2,7 +2,7 @@
 use Rattle.std.proofs.Common.{◌≡◌, ℕ, ◌+◌, Bool, List, refl, sym, ap, subst, ◌∙◌, Ok, Err}
 use Rattle.std.specs.Prelude.{Result}
 use Rattle.tp_recover.proofs.Lower.{Form, OpenFault, area_start, content_of, Moment, Head, head_of, Network, t414, t414_ends, NodeState, Opened, base_of, chosen_area, closed_in, cut_in, front_in, area_in, opening, verdict, Replay, after_rows, replay_from, ◌>>=◌, cut_front}
-use Rattle.tp_recover.specs.declared.start.Start.{Start}
+use Rattle.tp_recover.specs.declared.area.start.Start.{Start}
 use Rattle.tp_recover.specs.declared.unopened.Unopened.{Unopened}
 use Rattle.tp_recover.specs.AfterGroups.{after_groups}
 use Rattle.tp_recover.specs.Reading.{ReadAnswer, found}

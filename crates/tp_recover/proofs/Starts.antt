@@ -2,8 +2,8 @@
 use Rattle.std.proofs.Common.{◌≡◌, ℕ, zero, suc, ◌<◌, ◌≤◌, List, [], ◌∷◌, length, map, get_or, sym, ap, subst, ◌∙◌, arith, true, Option, Some, None, slice_get, Bool, ◌+◌, Ok, Err, Vec}
 use Rattle.std.specs.Prelude.{All, ◌&&◌, Result, vec_len}
 use Rattle.tp_recover.proofs.Lower.{Global, and_parts, false≢true, Token, Data, Ack, Marker, MAX_HELD, WireEnd, Topology, ◌>>=◌, area_start, content_of, Moment, Head, t414_ends, base_of, cut_in, front_in, is_line_of, has_record, are_lines, PortParts, port_made, PortValue, opened_port, NodeContents, network_flat, opened_ports, CutFront, cut_front, front_given, bind_ok}
-use Rattle.tp_recover.specs.declared.cut.Cut.{Cut}
-use Rattle.tp_recover.specs.declared.start.Start.{Start}
+use Rattle.tp_recover.specs.declared.area.cut.Cut.{Cut}
+use Rattle.tp_recover.specs.declared.area.start.Start.{Start}
 use Rattle.tp_recover.specs.declared.unopened.Unopened.{Unopened}
 use Rattle.tp_recover.specs.Cuts.{network_of_cut}
 use Rattle.tp_recover.specs.Nodes.{AreAllThawed}

@@ -1,9 +1,9 @@
 -- The bytes of a copy.
 use Rattle.std.specs.Prelude.{◌≡◌, ℕ, ◌+◌, ◌-◌, true, not, List, [], ◌∷◌, take, drop, Ok, Option, Some, None}
 use Rattle.tp_recover.specs.Lower.{area_front, area_start, Moment, State, Sync, done, written, Opened, next_of, verdict, GATE_CLOSED, GATE_OPEN}
-use Rattle.tp_recover.specs.declared.asked.AreaAsked.{AreaAsked}
-use Rattle.tp_recover.specs.declared.copying.Copied.{Copied}
-use Rattle.tp_recover.specs.declared.kept.Kept.{Kept}
+use Rattle.tp_recover.specs.declared.reading.asked.AreaAsked.{AreaAsked}
+use Rattle.tp_recover.specs.declared.copy.copying.Copied.{Copied}
+use Rattle.tp_recover.specs.declared.copy.kept.Kept.{Kept}
 
 -- what of an opened device is copied
 abbrev pub area_kept : Opened → Kept

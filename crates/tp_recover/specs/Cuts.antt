@@ -1,7 +1,7 @@
 -- Cuts that were read.
 use Rattle.std.specs.Prelude.{ℕ, List, map, drop, Option, Result, Ok}
 use Rattle.tp_recover.specs.Lower.{Token, OpenFault, WireEnd, nodes_in, lines_in, ports_in, Network, Port, NodeState, ◌>>=◌, port_made, Places}
-use Rattle.tp_recover.specs.declared.cut.Cut.{Cut}
+use Rattle.tp_recover.specs.declared.area.cut.Cut.{Cut}
 use Rattle.tp_recover.specs.Nodes.{live_node}
 
 -- a network with `wires`

@@ -68,8 +68,8 @@ pub use Rattle.tp_area.specs.Places.{place_at}
 pub use Rattle.tp_area.specs.Ports.{port_said as record_of}
 pub use Rattle.tp_area.specs.Rights.{Copies}
 pub use Rattle.tp_area.specs.Tails.{tail_refusal}
-pub use Rattle.tp_area.specs.declared.front.CutFront.{CutFront}
-pub use Rattle.tp_area.specs.declared.front.TheConstants.{AREA_FRONT_BYTES}
+pub use Rattle.tp_area.specs.declared.encoding.front.CutFront.{CutFront}
+pub use Rattle.tp_area.specs.declared.encoding.front.TheConstants.{AREA_FRONT_BYTES}
 pub use Rattle.tp_area.specs.declared.journal.JournalRoom.{JournalRoom}
 pub use Rattle.tp_area.specs.declared.layout_place.Places.{Places}
 pub use Rattle.tp_area.specs.declared.place.Place.{Place}

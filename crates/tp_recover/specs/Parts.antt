@@ -1,7 +1,7 @@
 -- A cut as its parts.
 use Rattle.std.specs.Prelude.{map}
 use Rattle.tp_recover.specs.Lower.{NodeState, Network, port_made}
-use Rattle.tp_recover.specs.declared.flights.CutParts.{CutParts}
+use Rattle.tp_recover.specs.declared.area.flights.CutParts.{CutParts}
 
 -- the network of the parts
 abbrev pub network_of_parts : CutParts → Network NodeState

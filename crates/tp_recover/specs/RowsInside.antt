@@ -1,7 +1,7 @@
 -- What was read of rows, in its fields.
 use Rattle.std.specs.Prelude.{◌≡◌, ◌+◌, ◌<◌, ◌≤◌, ℕ, true, length}
 use Rattle.tp_recover.specs.Lower.{AllByRecursion, Entry, NUMBER_LIMIT, is_in_range}
-use Rattle.tp_recover.specs.declared.rows.Rows.TheInside.{Inside}
+use Rattle.tp_recover.specs.declared.journal.rows.Rows.TheInside.{Inside}
 use Rattle.tp_recover.specs.RowsRead.{Rows}
 
 abbrev pub rows_inside : Inside → Rows

@@ -1,7 +1,7 @@
 -- What is read of an area before its groups, and what is opened with them.
 use Rattle.std.specs.Prelude.{◌≡◌, ◌<◌, ℕ, ◌+◌, Bool, List, drop, Result, Ok}
 use Rattle.tp_recover.specs.Lower.{AllByRecursion, OpenFault, NUMBER_LIMIT, area_start, Head, Network, t414_ends, NodeState, Opened, cut_in, groups_place, Listing, Replay, listing, replay_from, ◌>>=◌, IsCut, IsNodeOfBytes, CutFront, front_given}
-use Rattle.tp_recover.specs.declared.start.Start.{Start}
+use Rattle.tp_recover.specs.declared.area.start.Start.{Start}
 use Rattle.tp_recover.specs.AfterGroups.{after_groups}
 
 -- the fields before a cut, and the cut

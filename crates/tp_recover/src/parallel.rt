@@ -4,10 +4,10 @@ ghost use Rattle.std.specs.Prelude.{◌≡◌, ◌^◌, ◌<◌, ◌≤◌, IfOk
 ghost use Rattle.tp_recover.specs.Lower.{AreTrue, WereTrue, areas_end, content_of, Sync, done, Counts, t414, t414_ends, area_in, verdict};
 ghost use Rattle.tp_recover.specs.Reading.{has_read, ReadAnswer, LeavesAlone, LeavesNothingNew};
 
+use crate::area::start::Start;
+use crate::area::taken::{Taken, read_taken};
+use crate::journal::played::play_rows;
 use crate::opening::{Opened, read_chosen};
-use crate::played::play_rows;
-use crate::start::Start;
-use crate::taken::{Taken, read_taken};
 use crate::unopened::Unopened;
 use std::alloc::Global;
 use std::thread::Threads;

@@ -4,8 +4,8 @@ use Rattle.std.specs.Prelude.{◌&&◌, Result, Ok, Err, IfOk, IfSome, is_some}
 use Rattle.tp_shared.proofs.Lower.{AllByRecursion, list_all, and_parts, take_more, get_or_from_slice_get, slice_get_within, no_act}
 use Rattle.tp_shared.specs.CopiedTail.{has_copy}
 use Rattle.tp_shared.specs.Told.{ToldSince}
-use Rattle.tp_shared.specs.declared.seal.NodeSeal.{NodeSeal}
-use Rattle.tp_shared.specs.declared.told.Told.{Told}
+use Rattle.tp_shared.specs.declared.nodes.seal.NodeSeal.{NodeSeal}
+use Rattle.tp_shared.specs.declared.flusher.told.Told.{Told}
 
 pub take_some : {A : Type 0} (xs : List A) (i : ℕ) (x : A) → slice_get xs i ≡ Some x → take (i + 1) xs ≡ take i xs ++ x ∷ []
 take_some xs i x e = take_more xs i x (slice_get_within xs i x e) ∙ ap (λ y. take i xs ++ y ∷ []) (get_or_from_slice_get xs i x x e)

@@ -6,11 +6,11 @@ use Rattle.tp_shared.specs.Cells.{IsPlaceOf, AreOfCell}
 use Rattle.tp_shared.specs.Hands.{AreOfRow, IsEmptyHand, IsRowWith, with_place}
 use Rattle.tp_shared.specs.Seals.{IsSealOf, Sealed}
 use Rattle.tp_shared.specs.Parted.{name_of, IsDealt}
-use Rattle.tp_shared.specs.declared.dealt.Dealt.{Dealt}
-use Rattle.tp_shared.specs.declared.hand.Hand.{Hand}
-use Rattle.tp_shared.specs.declared.place.Place.{Place}
-use Rattle.tp_shared.specs.declared.seal.NodeSeal.{NodeSeal}
-use Rattle.tp_shared.specs.declared.cells.TheConstants.{CELLS, ROW}
+use Rattle.tp_shared.specs.declared.nodes.dealt.Dealt.{Dealt}
+use Rattle.tp_shared.specs.declared.nodes.hand.Hand.{Hand}
+use Rattle.tp_shared.specs.declared.nodes.place.Place.{Place}
+use Rattle.tp_shared.specs.declared.nodes.seal.NodeSeal.{NodeSeal}
+use Rattle.tp_shared.specs.declared.nodes.cells.TheConstants.{CELLS, ROW}
 
 -- ## Lists
 

@@ -5,7 +5,7 @@ use Rattle.tp_shared.proofs.Lower.{enumerate_from, append-nil, Entry, NodeState,
 use Rattle.tp_shared.specs.Entries.{CountedTakes, OpenedEntries}
 use Rattle.tp_shared.specs.Gains.{Gained}
 use Rattle.tp_shared.specs.NodeTurned.{NodeTurned}
-use Rattle.tp_shared.specs.declared.node_turn.NodeTurn.{NodeTurn}
+use Rattle.tp_shared.specs.declared.nodes.node_turn.NodeTurn.{NodeTurn}
 
 -- what is gained after nothing was gained
 gained_behind : (Are : List Entry → Type 0) (old between new : List (ℕ × Entry)) → Gained (λ entries. entries ≡ []) old between → Gained Are between new → Gained Are old new

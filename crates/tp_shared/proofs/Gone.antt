@@ -3,7 +3,7 @@ use Rattle.std.proofs.Common.{◌≡◌, ℕ, zero, suc, Bool, true, false, not,
 use Rattle.std.specs.Prelude.{◌&&◌}
 use Rattle.tp_shared.proofs.Lower.{AllByRecursion, list_all, cases_eq, bind_some, slice_get-set_same, NodeState, t414, MarkedNetwork, IsFrozenAs, Act, happens, acted, is_trim, frozen_as_stays, has_recorded_in, BookValue, world_of}
 use Rattle.tp_shared.specs.Frozen.{frozen_in, keeps_pages, none_kept, StayGone}
-use Rattle.tp_shared.specs.declared.seal.NodeSeal.{NodeSeal}
+use Rattle.tp_shared.specs.declared.nodes.seal.NodeSeal.{NodeSeal}
 
 some_seal : (x y : NodeSeal) → Some x ≡ Some y → x ≡ y
 some_seal x y e = cc

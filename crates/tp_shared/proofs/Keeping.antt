@@ -10,9 +10,9 @@ use Rattle.tp_shared.specs.Seals.{Stage, Sealed}
 use Rattle.tp_shared.specs.Thawed.{ThawedAsTold}
 use Rattle.tp_shared.specs.Together.{AreTogether}
 use Rattle.tp_shared.specs.Told.{ToldSince, told_of}
-use Rattle.tp_shared.specs.declared.handed.Handed.{Handed}
-use Rattle.tp_shared.specs.declared.seal.NodeSeal.{NodeSeal}
-use Rattle.tp_shared.specs.declared.told.Told.{Told}
+use Rattle.tp_shared.specs.declared.flusher.handed.Handed.{Handed}
+use Rattle.tp_shared.specs.declared.nodes.seal.NodeSeal.{NodeSeal}
+use Rattle.tp_shared.specs.declared.flusher.told.Told.{Told}
 use Rattle.tp_shared.proofs.Accepting.{accepted_more}
 use Rattle.tp_shared.proofs.BrokenSeen.{ever_since, seen_now}
 use Rattle.tp_shared.proofs.Copying.{since_flag}

@@ -84,8 +84,8 @@ pub use Rattle.tp_book.specs.Needs.{has_recorded_in, is_asked}
 pub use Rattle.tp_book.specs.Opened.{IsWellOpen, now_of, opened_book}
 pub use Rattle.tp_book.specs.Refusals.{IsAnswer, else_if, is_journal_full, reserve_refusal}
 pub use Rattle.tp_book.specs.Trimmed.{after_trim, kept_in, outside}
-pub use Rattle.tp_book.specs.declared.backlog.Copied.{Copied}
 pub use Rattle.tp_book.specs.declared.book.Book.{Book}
+pub use Rattle.tp_book.specs.declared.entries.backlog.Copied.{Copied}
 pub use Rattle.tp_book.specs.declared.refusal.Refusal.{Refusal}
 pub use Rattle.tp_book.specs.declared.refusal.Refusal.TheVariants.{JournalFull, Memory, NothingToTake, PortFull, SnapshotRunning, StoreBroken}
 pub use Rattle.tp_book.specs.declared.state.NetState.{NetState}

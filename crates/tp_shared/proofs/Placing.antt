@@ -1,9 +1,9 @@
 -- Places under a node's lock.
 use Rattle.std.proofs.Common.{◌≡◌, ℕ, ◌+◌, ◌*◌, inl, inr, List, set, sym, ap, subst, ◌∙◌, arith, Some, slice_get}
 use Rattle.tp_shared.proofs.Lower.{cases_eq, length-set, slice_get-set_same, slice_get-set_other}
-use Rattle.tp_shared.specs.declared.place.Place.{Place}
+use Rattle.tp_shared.specs.declared.nodes.place.Place.{Place}
 use Rattle.tp_shared.specs.Cells.{IsPlaceOf, AreOfCell}
-use Rattle.tp_shared.specs.declared.cells.TheConstants.{CELLS}
+use Rattle.tp_shared.specs.declared.nodes.cells.TheConstants.{CELLS}
 
 some_same : (x y : Place) → Some x ≡ Some y → x ≡ y
 some_same x y e = cc

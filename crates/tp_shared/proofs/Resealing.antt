@@ -3,7 +3,7 @@ use Rattle.std.proofs.Common.{◌≡◌, ℕ, Bool, true, false, inl, inr, List,
 use Rattle.tp_shared.proofs.Lower.{cases_eq, slice_get-set_same, slice_get-set_other, BookValue}
 use Rattle.tp_shared.specs.Agreement.{Agreement}
 use Rattle.tp_shared.specs.Seals.{IsSealOf, Sealed}
-use Rattle.tp_shared.specs.declared.seal.NodeSeal.{NodeSeal}
+use Rattle.tp_shared.specs.declared.nodes.seal.NodeSeal.{NodeSeal}
 
 some_same : (x y : NodeSeal) → Some x ≡ Some y → x ≡ y
 some_same x y e = cc

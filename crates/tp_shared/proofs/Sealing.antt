@@ -6,8 +6,8 @@ use Rattle.tp_shared.specs.Agreement.{Agreement, answered_with, at_rest, takes_o
 use Rattle.tp_shared.specs.BookActs.{Grown, NodeActed, HostActed}
 use Rattle.tp_shared.specs.Gains.{HoldNoted}
 use Rattle.tp_shared.specs.Seals.{Stage, IsSealOf, Sealed, IsTied, KeyShows, ShowsOpen}
-use Rattle.tp_shared.specs.declared.place.Place.{Place}
-use Rattle.tp_shared.specs.declared.seal.NodeSeal.{NodeSeal}
+use Rattle.tp_shared.specs.declared.nodes.place.Place.{Place}
+use Rattle.tp_shared.specs.declared.nodes.seal.NodeSeal.{NodeSeal}
 use Rattle.tp_shared.proofs.Waiting.{agreed_many, others_wait, waits_on}
 
 -- ## Seals

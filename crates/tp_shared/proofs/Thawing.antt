@@ -4,8 +4,8 @@ use Rattle.tp_shared.proofs.Lower.{true≢false, all_at, all_set, NodeState, Wor
 use Rattle.tp_shared.specs.Seals.{Stage}
 use Rattle.tp_shared.specs.Told.{ToldSince, told_of}
 use Rattle.tp_shared.specs.Thawed.{HasThawed, ThawedAsTold}
-use Rattle.tp_shared.specs.declared.seal.NodeSeal.{NodeSeal}
-use Rattle.tp_shared.specs.declared.told.Told.{Told}
+use Rattle.tp_shared.specs.declared.nodes.seal.NodeSeal.{NodeSeal}
+use Rattle.tp_shared.specs.declared.flusher.told.Told.{Told}
 use Rattle.tp_shared.proofs.Cuts.{stays_whole, whole_recorded}
 
 -- nothing is told of pages

@@ -1,8 +1,8 @@
 -- What a node's lock holds.
 use Rattle.std.specs.Prelude.{◌≡◌, ◌<◌, ℕ, ◌+◌, ◌*◌, List, length, Some, slice_get}
-use Rattle.tp_shared.specs.declared.place.Place.{Place}
+use Rattle.tp_shared.specs.declared.nodes.place.Place.{Place}
 use Rattle.tp_shared.specs.Seals.{KeyShows}
-use Rattle.tp_shared.specs.declared.cells.TheConstants.{CELLS}
+use Rattle.tp_shared.specs.declared.nodes.cells.TheConstants.{CELLS}
 
 -- A node that exists, with the key of its name, which shows it. No turn of it is open.
 pub record IsPlaceOf (name i count : ℕ) (p : Place) : Type 0 where

@@ -1,7 +1,7 @@
 -- The nodes with pages that are kept as they were when the node recorded.
 use Rattle.std.specs.Prelude.{◌≡◌, ℕ, ◌*◌, Bool, false, not, nat_lt, List, [], ◌∷◌, length, get_or, Option, Some, None, slice_get}
 use Rattle.tp_shared.specs.Lower.{list_all, PAGE_BYTES, NodeState, MarkedNetwork, IsFrozenAs}
-use Rattle.tp_shared.specs.declared.seal.NodeSeal.{NodeSeal}
+use Rattle.tp_shared.specs.declared.nodes.seal.NodeSeal.{NodeSeal}
 
 -- what is beside each seal
 abbrev pub frozen_in : List NodeSeal → List Bool

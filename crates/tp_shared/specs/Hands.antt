@@ -1,8 +1,8 @@
 -- Places that are dealt to the cells of a row.
 use Rattle.std.specs.Prelude.{◌≡◌, ◌≢◌, ℕ, ◌/◌, ◌%◌, ◌==◌, if◌then◌else◌, List, [], ◌∷◌, ◌++◌}
-use Rattle.tp_shared.specs.declared.place.Place.{Place}
-use Rattle.tp_shared.specs.declared.hand.Hand.{Hand}
-use Rattle.tp_shared.specs.declared.cells.TheConstants.{CELLS, ROW}
+use Rattle.tp_shared.specs.declared.nodes.place.Place.{Place}
+use Rattle.tp_shared.specs.declared.nodes.hand.Hand.{Hand}
+use Rattle.tp_shared.specs.declared.nodes.cells.TheConstants.{CELLS, ROW}
 use Rattle.tp_shared.specs.Cells.{AreOfCell}
 
 -- each node of the four cells of a row, among `count`

@@ -3,7 +3,7 @@ use Rattle.std.specs.Prelude.{◌≡◌, ◌≤◌, ◌⊎◌, ℕ, List, length
 use Rattle.tp_shared.specs.Lower.{Entry, Received, NodeState, Network, by_link, turn_entries, run_entries}
 use Rattle.tp_shared.specs.Entries.{CountedTakes}
 use Rattle.tp_shared.specs.Gains.{Gained}
-use Rattle.tp_shared.specs.declared.node_turn.NodeTurn.{NodeTurn}
+use Rattle.tp_shared.specs.declared.nodes.node_turn.NodeTurn.{NodeTurn}
 
 -- Each token that the node took is an entry, and then its run is one, if it made a step.
 pub record TookApart (start : Network NodeState) (number : ℕ) (turn : NodeTurn) (seat_old seat_new : List (ℕ × Entry)) : Type 0 where

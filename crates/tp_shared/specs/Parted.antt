@@ -3,8 +3,8 @@ use Rattle.std.specs.Prelude.{◌≡◌, ℕ, zero, suc, List, [], ◌∷◌, ma
 use Rattle.tp_shared.specs.Lower.{MarkName, Entry, NodeContents, NetState, BookValue, IsWellOpen, now_of, opened_book}
 use Rattle.tp_shared.specs.Hands.{AreOfRow}
 use Rattle.tp_shared.specs.Seals.{Sealed, IsTied}
-use Rattle.tp_shared.specs.declared.dealt.Dealt.{Dealt}
-use Rattle.tp_shared.specs.declared.seal.NodeSeal.{NodeSeal}
+use Rattle.tp_shared.specs.declared.nodes.dealt.Dealt.{Dealt}
+use Rattle.tp_shared.specs.declared.nodes.seal.NodeSeal.{NodeSeal}
 
 -- The book of an opened device, and the nodes of its network as it is.
 pub record AreOfOpened (book : BookValue) (nodes : List NodeContents) : Type 0 where

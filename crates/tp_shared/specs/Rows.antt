@@ -1,6 +1,6 @@
 -- Rows of four cells.
 use Rattle.std.specs.Prelude.{◌≡◌, ℕ, ◌%◌}
-use Rattle.tp_shared.specs.declared.cells.TheConstants.{CELLS, ROW}
+use Rattle.tp_shared.specs.declared.nodes.cells.TheConstants.{CELLS, ROW}
 
 -- In a row, whose cells have these numbers, the place of a node's cell follows from the node's number.
 pub record IsInRow (a b c d number : ℕ) : Type 0 where

@@ -2,8 +2,8 @@
 use Rattle.std.specs.Prelude.{◌≡◌, ℕ, ◌+◌, Bool, true, List, length, get_or, Option, Some, None, IsSome, is_some, slice_get}
 use Rattle.tp_shared.specs.Lower.{IsReceived, IsNodeOfBytes, Entry, Turns, Received, Token, NodeState, t414, steps, took_all, has_recorded_in, BookValue, agreed, next_in_book, world_of, tokens_in}
 use Rattle.tp_shared.specs.Agreement.{Agreement, at_rest}
-use Rattle.tp_shared.specs.declared.place.Place.{Place}
-use Rattle.tp_shared.specs.declared.seal.NodeSeal.{NodeSeal}
+use Rattle.tp_shared.specs.declared.nodes.place.Place.{Place}
+use Rattle.tp_shared.specs.declared.nodes.seal.NodeSeal.{NodeSeal}
 
 -- The book, and all entries since it was opened. Then a position from which on its entries have their positions as numbers, and for each
 -- node whether pages of it are kept as they were when it recorded.

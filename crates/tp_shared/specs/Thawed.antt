@@ -1,8 +1,8 @@
 -- Once no node's pages are kept any more.
 use Rattle.std.specs.Prelude.{◌≡◌, true, false, List}
 use Rattle.tp_shared.specs.Lower.{AllByRecursion, NodeState, t414, WholeCut, HasCut, CutInvariant}
-use Rattle.tp_shared.specs.declared.seal.NodeSeal.{NodeSeal}
-use Rattle.tp_shared.specs.declared.told.Told.{Told}
+use Rattle.tp_shared.specs.declared.nodes.seal.NodeSeal.{NodeSeal}
+use Rattle.tp_shared.specs.declared.flusher.told.Told.{Told}
 
 -- A cut was told to be whole, and no node's pages are kept since.
 pub record HasThawed (told : Told) (seals : List NodeSeal) : Type 0 where

@@ -14,9 +14,9 @@ use Rattle.tp_shared.specs.Positions.{IsNumberedFrom}
 use Rattle.tp_shared.specs.Seals.{Sealed, IsTied}
 use Rattle.tp_shared.specs.Thawed.{ThawedAsTold}
 use Rattle.tp_shared.specs.Told.{ToldSince, told_of}
-use Rattle.tp_shared.specs.declared.handed.Handed.{Handed}
-use Rattle.tp_shared.specs.declared.seal.NodeSeal.{NodeSeal}
-use Rattle.tp_shared.specs.declared.told.Told.{Told}
+use Rattle.tp_shared.specs.declared.flusher.handed.Handed.{Handed}
+use Rattle.tp_shared.specs.declared.nodes.seal.NodeSeal.{NodeSeal}
+use Rattle.tp_shared.specs.declared.flusher.told.Told.{Told}
 
 -- A book, the seals of its nodes, the roll, the seals of what the flusher was told and of what the host handed in, and the books that were
 -- seen, whenever nobody holds the lock. The other arguments say which network, tokens and history they belong to.

@@ -2,7 +2,7 @@
 use Rattle.std.specs.Prelude.{◌≡◌, ℕ, List, Some, Result, Ok, Err}
 use Rattle.tp_shared.specs.Lower.{Token, NodeState, Network, steps, t414, node_ranges, kept_behind_steps, LacksFrames, NodeContents, memory_kept, IsWhy, Refusal, BookValue, without_run, HostDone, HostTurns, moment_of, IsNodeOf, Added, Opened, OpensIn, opened_acts, taken_in}
 use Rattle.tp_shared.specs.Holds.{WasHeld, InHand}
-use Rattle.tp_shared.specs.declared.node_turn.NodeTurn.{NodeTurn}
+use Rattle.tp_shared.specs.declared.nodes.node_turn.NodeTurn.{NodeTurn}
 
 -- A node's turn was opened, with this answer, in the book that was found and by that book's form. The node was the one that the book's
 -- entries make. All was done that may be.

@@ -2,7 +2,7 @@
 
 ghost use Rattle.std.specs.Prelude.{◌≡◌};
 
-use crate::handed::Handed;
+use crate::flusher::handed::Handed;
 use crate::naming::Naming;
 use std::marker::{Model, PhantomData};
 use tp_ready::twin::Key;

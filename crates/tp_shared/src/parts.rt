@@ -5,12 +5,12 @@ ghost use Rattle.tp_shared.specs.Lower.{IsNodeOfBytes, next_in_book, NodeContent
 ghost use Rattle.tp_shared.specs.Agreement.{at_rest};
 ghost use Rattle.tp_shared.specs.Parted.{AreOfOpened, IsDealt};
 
-use crate::dealt::Dealt;
-use crate::handed::Handed;
-use crate::place::Place;
-use crate::seal::NodeSeal;
-use crate::shown::Shown;
-use crate::told::Told;
+use crate::flusher::handed::Handed;
+use crate::flusher::told::Told;
+use crate::nodes::dealt::Dealt;
+use crate::nodes::place::Place;
+use crate::nodes::seal::NodeSeal;
+use crate::nodes::shown::Shown;
 use std::alloc::{AllocError, Global};
 use std::marker::Model;
 use std::snapshot::Snapshot;

@@ -3,7 +3,7 @@
 ghost use Rattle.std.specs.Prelude.{◌≡◌, ℕ, ◌==◌, length, true};
 ghost use Rattle.tp_ready.specs.Sound.{shown, item_of};
 
-use crate::locked::Locked;
+use crate::book::locked::Locked;
 use crate::naming::Naming;
 use crate::seat::Seat;
 

@@ -77,7 +77,7 @@ pub use Rattle.tp_shared.specs.NodeTurned.{NodeTurned}
 pub use Rattle.tp_shared.specs.Parted.{PartsValue, name_of}
 pub use Rattle.tp_shared.specs.Seals.{Stage}
 pub use Rattle.tp_shared.specs.TurnsMade.{HostTurnMade, TurnMade}
-pub use Rattle.tp_shared.specs.declared.node_turn.NodeTurn.{NodeTurn}
+pub use Rattle.tp_shared.specs.declared.nodes.node_turn.NodeTurn.{NodeTurn}
 pub use Rattle.tp_work.specs.Answers.{RefusesFor}
 pub use Rattle.tp_work.specs.Outputs.{confirm_fault}
 pub use Rattle.tp_work.specs.Turns.{BrokenOff, Refused, Turned}

@@ -55,7 +55,7 @@ pub use Rattle.tp_shared.specs.Named.{Names}
 pub use Rattle.tp_shared.specs.Resting.{HasHalted}
 pub use Rattle.tp_shared.specs.Seals.{Stage}
 pub use Rattle.tp_shared.specs.TurnsMade.{HostTurnMade, TurnMade}
-pub use Rattle.tp_shared.specs.declared.node_turn.NodeTurn.{NodeTurn}
+pub use Rattle.tp_shared.specs.declared.nodes.node_turn.NodeTurn.{NodeTurn}
 pub use Rattle.tp_work.specs.Offers.{offer_fault}
 pub use Rattle.tp_work.specs.Receipts.{IsFor}
 pub use Rattle.tp_work.specs.Turns.{BrokenOff, Turned}

@@ -84,7 +84,7 @@ pub use Rattle.tp_recover.specs.Before.{IsImage, node_before}
 pub use Rattle.tp_recover.specs.Cuts.{network_of_cut}
 pub use Rattle.tp_recover.specs.Nodes.{AreAllThawed, live_node}
 pub use Rattle.tp_recover.specs.Reading.{LeavesAlone, LeavesNothingNew, ReadAnswer, has_read}
-pub use Rattle.tp_recover.specs.declared.cut.Cut.{Cut}
+pub use Rattle.tp_recover.specs.declared.area.cut.Cut.{Cut}
 pub use Rattle.tp_recover.specs.declared.unopened.Unopened.{Unopened}
 pub use Rattle.tp_recover.specs.declared.unopened.Unopened.TheVariants.{Fault, Memory, ReadFailed}
 pub use Rattle.tp_stream_files.proofs.Fronts.{kept_appended, more_appended, none_appended}

@@ -78,7 +78,7 @@ pub use Rattle.tp_trace.specs.declared.stepping.Seen.{Seen}
 pub use Rattle.tp_disk.specs.Reads.{AreTrue, WereTrue}
 pub use Rattle.tp_area.specs.Capacity.{journal_of}
 pub use Rattle.tp_area.specs.Fronts.{area_front}
-pub use Rattle.tp_area.specs.declared.front.AreaFront.{AreaFront}
+pub use Rattle.tp_area.specs.declared.encoding.front.AreaFront.{AreaFront}
 pub use Rattle.tp_recover.specs.Before.{IsImage, IsImageOf, node_before}
 pub use Rattle.tp_recover.specs.EntriesLeft.{entries_left}
 pub use Rattle.tp_recover.specs.Nodes.{AreAllThawed, live_node}

@@ -1,4 +1,0 @@
-use Rattle.tp_book.proofs.cut.CutNetwork.again.Given as goal
-
-abbrev pub ghost-of : goal.ghost-of
-ghost-of a = a._value.now.network

@@ -1,7 +1,0 @@
--- It owns nothing, so any thread may share it.
-use denote.Param.Send.{IsSync, part_keyless}
-use Rattle.tp_book.specs.contracts.receipt.Covered.{the_row}
-use Rattle.tp_book.proofs.receipt.Covered.TheSendSync.Send.{send}
-
-pub sync : IsSync the_row
-sync = record { shared = λ d b o κ q. part_keyless the_row send q d b o }

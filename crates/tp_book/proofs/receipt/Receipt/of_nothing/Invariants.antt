@@ -1,5 +1,0 @@
-use Rattle.std.proofs.Common.{[], None}
-use Rattle.tp_book.proofs.receipt.Receipt.of_nothing.Given as goal
-
-abbrev pub ghost-of : goal.ghost-of
-ghost-of a = record { entries = []; position = None }

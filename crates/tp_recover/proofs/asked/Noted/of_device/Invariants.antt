@@ -1,4 +1,0 @@
-use Rattle.tp_recover.proofs.asked.Noted.of_device.Given as goal
-
-abbrev pub ghost-of : goal.ghost-of
-ghost-of g a = g.D.Disk.state a._value.now

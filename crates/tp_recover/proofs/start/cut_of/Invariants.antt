@@ -1,4 +1,0 @@
-use Rattle.tp_recover.proofs.start.cut_of.Given as goal
-
-abbrev pub ghost-of : goal.ghost-of
-ghost-of a = a._value.now

@@ -1,0 +1,6 @@
+use Rattle.std.proofs.Common.{true}
+use Rattle.tp_shared.specs.Told.{told_of}
+use Rattle.tp_shared.proofs.flusher.told.Told.thawed.Given as goal
+
+abbrev pub ghost-of : goal.ghost-of
+ghost-of g a = record (told_of g.J.Naming.before g.J.Naming.first a._value.now) { thawed = true }

@@ -1,4 +1,0 @@
-use Rattle.tp_shared.proofs.sights.Sights.new.Given as goal
-
-abbrev pub ghost-empty : goal.ghost-empty
-ghost-empty g a = g.J.Naming.sights
