@@ -7,13 +7,9 @@ work=$(mktemp -d /tmp/bench-pool-XXXX)
 trap 'rm -rf "$work"' EXIT
 
 mkdir -p "$work/crates/bench_pool/src"
-for crate in tp_model tp_law_machine tp_mem; do
-    mkdir "$work/crates/$crate"
-    cp -r "$top/crates/$crate/src" "$top/crates/$crate/specs" "$top/crates/$crate/proofs" "$work/crates/$crate"
-done
+tar -C "$top" -c --exclude=out crates/tp_model crates/tp_law_machine crates/tp_mem HANDLES | tar -C "$work" -x
 grep -E '^tp_(model|law_machine|mem):' "$top/crates.txt" > "$work/crates.txt"
 echo "bench_pool: tp_mem" >> "$work/crates.txt"
-cp "$top/HANDLES" "$work"
 cp "$top/bench/pool.rattle" "$work/crates/bench_pool/src/main.rt"
 cd "$work/crates/bench_pool"
 exec rt try --steps 1000 --seconds 100
