@@ -1,5 +1,5 @@
 //! The mark itself.
-ghost use Rattle.std.specs.Prelude.{◌≡◌, ◌≤◌, max, [], vec_len, All, IfOk};
+ghost use Rattle.std.specs.Prelude.{◌≡◌, ◌≤◌, [], vec_len, All, IfOk};
 ghost use Rattle.tp_model.specs.DiskHistory.{moment};
 ghost use Rattle.tp_ready.specs.MarkView.{informed};
 ghost use Rattle.tp_ready.specs.Seen.{RisesOn, number_of, risen, unrisen};
@@ -101,15 +101,6 @@ impl Mark {
             .shared
             .fetch_max::<Raises<A>>(&mut raiser.place, 0, to);
         raiser.raised = found.max(to);
-    }
-
-    /// Tells `pass` of the mark's number: from now on its loads show at least that.
-    pub fn inform(&self, raiser: &mut Raiser, pass: &mut Pass)
-        requires marks { (raiser.old.mark ≡ self.now) × (pass.old.mark ≡ self.now) }
-        ensures pass { pass.new ≡ record pass.old { least = max pass.old.least raiser.old.at } }
-        ensures raiser { raiser.new ≡ raiser.old }
-    {
-        self.tell(&mut pass.place, &mut raiser.place);
     }
 
     /// Proves that what `pass` saw is at most what the mark was raised to. It is the last of the rises that `pass` saw, from which all of
