@@ -2,6 +2,7 @@ pub mod Lower
 pub mod Advances
 pub mod Ahead
 pub mod Asks
+pub mod Bare
 pub mod Behind
 pub mod Codes
 pub mod Doings

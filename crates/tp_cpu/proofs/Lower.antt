@@ -21,7 +21,7 @@ pub use Rattle.tp_model.specs.Memory.{changed, is_inside, offset, set_word, stor
 pub use Rattle.tp_model.specs.Outcome.{Halts, Next, Outcome, Receives, Sends, leaves, ◌>>=◌}
 pub use Rattle.tp_model.specs.Processor.{counted, descriptor_of, goto, is_low, low_runs, must_slice, past, queue_writes, saved_at, state_at, stopped, with_regs, workspace}
 pub use Rattle.tp_model.specs.Registers.{binary, error_if, op_row, pop, row_rem}
-pub use Rattle.tp_model.specs.SharedPages.{Kept, LacksFrames, kept_behind, word_ranges}
+pub use Rattle.tp_model.specs.SharedPages.{Kept, LacksFrames, kept_behind, shared_from, word_ranges}
 pub use Rattle.tp_model.specs.Step.{MakesStep, by_row, effect, executed, in_state, instruction, operate, operation}
 unfoldable pub use Rattle.tp_model.specs.Step.{step_of}
 pub use Rattle.tp_model.specs.StepWrites.{effect_ranges, executed_ranges, in_state_ranges, instruction_ranges, nowhere_ranges, operate_ranges, where_on}
@@ -46,3 +46,4 @@ pub use Rattle.tp_model.specs.declared.request.StepEnd.{StepEnd}
 pub use Rattle.tp_model.specs.declared.request.StepEnd.TheVariants.{Done, Halted, Idle as NoStep, LinkIn, LinkOut, NoFrame}
 pub use Rattle.tp_model.specs.declared.request.Wish.TheVariants.{Message}
 pub use Rattle.tp_mem.proofs.Writes.{length-set_word, length-stored, word_within}
+pub use Rattle.tp_mem.specs.Bare.{SharesNone, bare}

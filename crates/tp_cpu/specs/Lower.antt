@@ -31,3 +31,4 @@ pub use Rattle.tp_model.specs.declared.processor.State.{State}
 pub use Rattle.tp_model.specs.declared.processor.State.TheVariants.{High, Idle, Low}
 pub use Rattle.tp_model.specs.declared.request.StepEnd.{StepEnd}
 pub use Rattle.tp_model.specs.declared.request.StepEnd.TheVariants.{Done, Halted, Idle as NoStep, LinkIn, LinkOut, NoFrame}
+pub use Rattle.tp_mem.specs.Bare.{bare}

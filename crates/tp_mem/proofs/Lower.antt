@@ -6,7 +6,7 @@ pub use Rattle.core.specs.declared.alloc.Allocator.{Ghosts}
 pub use Rattle.std.proofs.Math.Seq.{drop-cons, take-append_seam}
 pub use Rattle.std.proofs.lemmas.Bool.{and_parts, cond_both, le-ltb, leb-true, lt-ltb, ltb-true, or_parts}
 pub use Rattle.std.proofs.lemmas.Bool.Decides.{nat_tests}
-pub use Rattle.std.proofs.lemmas.List.{drop-drop, ext_get_or, get_or-drop, get_or-replicate, get_or-set_other, get_or-set_same, get_or-take, get_or_read_under, length-append, length-drop, length-replicate, length-set, length-take, length-take-le, set-get_or, take-append-drop}
+pub use Rattle.std.proofs.lemmas.List.{drop-drop, ext_get_or, get_or-drop, get_or-replicate, get_or-set_other, get_or-set_same, get_or-take, get_or_default, get_or_read_under, length-append, length-drop, length-replicate, length-set, length-take, length-take-le, set-get_or, take-append-drop}
 pub use Rattle.std.proofs.lemmas.List.Folds.{list_any-append}
 pub use Rattle.std.proofs.lemmas.Result.{on_err_weaker}
 pub use Rattle.std.proofs.raw_atomic.Walks.{leaves, proved}

@@ -1,6 +1,7 @@
 -- Which pages stay shared after writes.
 use Rattle.std.proofs.Common.{◌≡◌, ℕ, zero, suc, ◌+◌, ◌-◌, ◌*◌, ◌/◌, ◌<◌, ◌≤◌, Bool, true, false, not, ◌&&◌, ◌||◌, if◌then◌else◌, List, All, [], ◌∷◌, length, get_or, set, drop, refl, sym, ap, ◌∙◌, arith, ltb}
 use Rattle.tp_mem.proofs.Lower.{ltb-true, and_parts, or_parts, drop-cons, list_any, PAGE_BYTES, word_offset, Kept, word_ranges, touches, shared_from, wanted_from, private_in, kept_behind, LacksFrames}
+use Rattle.tp_mem.specs.Ranges.{are_inside}
 
 -- the words that are written, as ranges
 pub list_any-word_ranges : (p : ℕ × ℕ → Bool) (words : List (ℕ × ℕ)) → list_any p (word_ranges words) ≡ list_any (λ word. p (word_offset word.0, 4)) words
@@ -182,6 +183,37 @@ wanted_from-untouched page (is_shared ∷ pages) ranges none =
 pub or_none : (b : Bool) → (b || false) ≡ b
 or_none true = refl
 or_none false = refl
+
+-- a word of those that are inside
+pub inside_at : (len : ℕ) (words : List (ℕ × ℕ)) (k : ℕ) → are_inside len words ≡ true → k < length words → word_offset (get_or words k (0, 0)).0 < len
+inside_at len [] k inside within = absurd (omega arith)
+inside_at len (word ∷ words) zero inside within = ltb-true (word_offset word.0) len (and_parts (ltb (word_offset word.0) len) (are_inside len words) inside).0
+inside_at len (word ∷ words) (suc k) inside within = inside_at len words k (and_parts (ltb (word_offset word.0) len) (are_inside len words) inside).1 (omega arith)
+
+-- two words, and four
+pub two_untouched : (pages : List Bool) (words : List (ℕ × ℕ)) → length words ≡ 2
+    → (get_or pages (word_offset (get_or words 0 (0, 0)).0 / PAGE_BYTES) false || get_or pages (word_offset (get_or words 1 (0, 0)).0 / PAGE_BYTES) false) ≡ false
+    → list_any (λ (word : ℕ × ℕ). get_or pages (word_offset word.0 / PAGE_BYTES) false) words ≡ false
+two_untouched pages [] long none = absurd (omega arith)
+two_untouched pages (one ∷ []) long none = absurd (omega arith)
+two_untouched pages (one ∷ two ∷ []) long none =
+    ap (λ b. get_or pages (word_offset one.0 / PAGE_BYTES) false || b) (or_none (get_or pages (word_offset two.0 / PAGE_BYTES) false)) ∙ none
+two_untouched pages (one ∷ two ∷ three ∷ words) long none = absurd (omega arith)
+
+pub four_untouched : (pages : List Bool) (words : List (ℕ × ℕ)) → length words ≡ 4
+    → All (λ (address : ℕ). get_or pages (word_offset address / PAGE_BYTES) false ≡ false) ((get_or words 0 (0, 0)).0 ∷ (get_or words 1 (0, 0)).0 ∷ (get_or words 2 (0, 0)).0 ∷ (get_or words 3 (0, 0)).0 ∷ [])
+    → list_any (λ (word : ℕ × ℕ). get_or pages (word_offset word.0 / PAGE_BYTES) false) words ≡ false
+four_untouched pages [] long none = absurd (omega arith)
+four_untouched pages (one ∷ []) long none = absurd (omega arith)
+four_untouched pages (one ∷ two ∷ []) long none = absurd (omega arith)
+four_untouched pages (one ∷ two ∷ three ∷ []) long none = absurd (omega arith)
+four_untouched pages (one ∷ two ∷ three ∷ four ∷ []) long none =
+    let at_one : get_or pages (word_offset one.0 / PAGE_BYTES) false ≡ false = none 0 0 (omega arith) in
+    let at_two : get_or pages (word_offset two.0 / PAGE_BYTES) false ≡ false = none 1 0 (omega arith) in
+    let at_three : get_or pages (word_offset three.0 / PAGE_BYTES) false ≡ false = none 2 0 (omega arith) in
+    let at_four : get_or pages (word_offset four.0 / PAGE_BYTES) false ≡ false = none 3 0 (omega arith) in
+    rw (at_one, at_two, at_three, at_four) refl
+four_untouched pages (one ∷ two ∷ three ∷ four ∷ five ∷ words) long none = absurd (omega arith)
 
 -- a page that stays shared
 and_true : (a b : Bool) → (a && not b) ≡ true → b ≡ false

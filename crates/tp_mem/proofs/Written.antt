@@ -34,6 +34,14 @@ module _ (live : List ℕ) (shared : List Bool) (copies : List (Option ℕ)) (fr
       ap (λ f. kept_of (paged after f shared (spare_in copies frames))) (frozen_of-written is_frozen after old.shared ranges others paged_is (ap (λ (m : Paged). m.shared) whole) same keeps)
       ∙ ap kept_of whole ∙ kept_behind-same (kept_of old) ranges others same
 
+  -- if no page is shared, the live bytes may be any
+  pub kept_bare : (is_frozen : Bool) (after : List ℕ) → IsPaged live shared copies frames is_frozen → ((page : ℕ) → get_or shared page false ≡ false)
+      → kept_of (paged after (frozen_of is_frozen after copies frames) shared (spare_in copies frames)) ≡ kept_of (paged live (frozen_of is_frozen live copies frames) shared (spare_in copies frames))
+  kept_bare false after paged_is none = refl
+  kept_bare true after paged_is none =
+      ap (λ f. kept_of (paged live (Some f) shared (spare_in copies frames))) (frozen_from-written 0 live after copies frames (λ i is_shared.
+      absurd (let no = sym (none i) ∙ ap (λ ps. get_or ps i false) paged_is.flags ∙ is_shared in cc)))
+
   -- the frozen bytes, page by page
   pub frozen_page_is : (is_frozen : Bool) (page : ℕ) → IsPaged live shared copies frames is_frozen → page < length copies → IfSome (frozen_of is_frozen live copies frames) (λ kept. page_of kept page ≡ frozen_bytes page live (get_or copies page None) frames)
   frozen_page_is false page paged within = tt

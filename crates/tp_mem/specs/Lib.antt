@@ -1,5 +1,6 @@
 pub mod Lower
 pub mod After
+pub mod Bare
 pub mod Bytes
 pub mod Contents
 pub mod Copies

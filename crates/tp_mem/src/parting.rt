@@ -1,12 +1,15 @@
 //! Parting shared pages from their frozen copies, before they are written.
 
-ghost use Rattle.std.specs.Prelude.{◌≡◌, ◌+◌, ◌-◌, ◌*◌, ◌/◌, ◌<◌, ◌≤◌, ◌^◌, [], ◌∷◌, ◌&&◌, not, if◌then◌else◌, true, false, length, get_or, set, ◌↔◌, IfOk, OnOk, OnErr, IsOk, IsSome};
-ghost use Rattle.tp_mem.specs.Lower.{list_any, word_offset, block_ranges, word_ranges, touches, shared_from, private_in, wanted_from};
+ghost use Rattle.std.specs.Prelude.{◌≡◌, ◌+◌, ◌-◌, ◌*◌, ◌/◌, ◌<◌, ◌≤◌, ◌^◌, [], ◌∷◌, ◌&&◌, not, if◌then◌else◌, true, false, length, get_or, set, ◌↔◌, IfOk, OnOk, OnErr, IsOk, IsSome, IsTrue};
+ghost use Rattle.tp_mem.specs.Lower.{list_any, block_ranges, word_ranges, touches, shared_from, private_in, wanted_from};
+ghost use Rattle.tp_mem.specs.Ranges.{are_inside};
 
 use crate::copy_table::page_at;
 use crate::cow::CowMemory;
 use crate::fault::NoFrame;
-use crate::touch::{NOWHERE, Range, block, is_shared, is_touched, one_page, shares, wanted};
+use crate::touch::{
+    NOWHERE, Range, block, has_own_row, is_shared, is_touched, one_page, shares, shares_two, wanted,
+};
 use tp_model::limits::PAGE_BYTES;
 
 impl CowMemory {
@@ -19,7 +22,7 @@ impl CowMemory {
         let Ok(id) = self.pool.take() else {
             unreachable!()
         };
-        self.pool.put(&id, page_at(&self.live, page));
+        self.pool.put(&id, page_at(self.live.as_slice(), page));
         self.copies[page] = Some(id);
         self.shared[page] = false;
     }
@@ -144,74 +147,40 @@ impl CowMemory {
         self.separate_frozen(first, block, words)
     }
 
-    /// Parts the shared pages that the words of two addresses are in.
-    #[inline(never)]
-    fn separate_two(&mut self, one: u32, two: u32) -> Result<(), NoFrame>
-        requires frozen { IsSome self.old.frozen }
-        ensures ok { IfOk result (λ _. self.new ≡ record self.old { shared = shared_from 0 self.old.shared ((0, 0) ∷ (0, 0) ∷ (word_offset one, 4) ∷ (word_offset two, 4) ∷ []) }) }
-        ensures err { OnErr result ((self.new ≡ self.old) × (self.old.spare - private_in self.old.shared < wanted_from 0 self.old.shared ((0, 0) ∷ (0, 0) ∷ (word_offset one, 4) ∷ (word_offset two, 4) ∷ []))) }
-    {
-        self.separate_frozen(NOWHERE, NOWHERE, &[(one, 0), (two, 0)])
-    }
-
-    /// Parts the shared pages that the words of four addresses are in.
-    #[inline(never)]
-    fn separate_four(&mut self, one: u32, two: u32, three: u32, four: u32) -> Result<(), NoFrame>
-        requires frozen { IsSome self.old.frozen }
-        ensures ok { IfOk result (λ _. self.new ≡ record self.old { shared = shared_from 0 self.old.shared ((0, 0) ∷ (0, 0) ∷ (word_offset one, 4) ∷ (word_offset two, 4) ∷ (word_offset three, 4) ∷ (word_offset four, 4) ∷ []) }) }
-        ensures err { OnErr result ((self.new ≡ self.old) × (self.old.spare - private_in self.old.shared < wanted_from 0 self.old.shared ((0, 0) ∷ (0, 0) ∷ (word_offset one, 4) ∷ (word_offset two, 4) ∷ (word_offset three, 4) ∷ (word_offset four, 4) ∷ []))) }
-    {
-        self.separate_frozen(
-            NOWHERE,
-            NOWHERE,
-            &[(one, 0), (two, 0), (three, 0), (four, 0)],
-        )
-    }
-
-    /// Parts the shared pages that `words` have bytes in. If memory isn't frozen, it makes no call. The addresses of two words and of four,
-    /// which the interpreter's loop writes, are handed on by themselves, so that there no table of them is made.
+    /// Whether the page of the `count` bytes at `at`, which are in one page, isn't shared. It tests one flag, and nothing else: no page is
+    /// shared while memory isn't frozen.
     #[inline(always)]
-    pub(crate) fn separate_words(&mut self, words: &[(u32, u32)]) -> Result<(), NoFrame>
-        ensures ok { IfOk result (λ _. self.new ≡ record self.old { shared = shared_from 0 self.old.shared ((0, 0) ∷ (0, 0) ∷ word_ranges words.now) }) }
-        ensures err { OnErr result ((self.new ≡ self.old) × IsSome self.old.frozen × (self.old.spare - private_in self.old.shared < wanted_from 0 self.old.shared ((0, 0) ∷ (0, 0) ∷ word_ranges words.now))) }
+    pub(crate) fn is_own(&self, at: usize, count: usize) -> bool
+        requires there { at < length self.now.live }
+        requires inside { at + count ≤ PAGE_BYTES * (at / PAGE_BYTES) + PAGE_BYTES }
+        ensures { result ≡ true → self.now ≡ record self.now { shared = shared_from 0 self.now.shared ((at, count) ∷ (0, 0) ∷ []) } }
+    {
+        !self.shared[at / PAGE_BYTES]
+    }
+
+    /// Whether the pages of words aren't shared.
+    #[inline(always)]
+    fn have_own_pages(&self, words: &[(u32, u32)]) -> bool
+        ensures { result ≡ true → self.now ≡ record self.now { shared = shared_from 0 self.now.shared ((0, 0) ∷ (0, 0) ∷ word_ranges words.now) } }
     {
         if !self.is_frozen {
-            return Ok(());
+            return true;
         }
+        !shares(&self.shared, NOWHERE, NOWHERE, words)
+    }
+
+    /// Whether the pages of words that are inside aren't shared. Of two words, and of four in a row, which the interpreter's loop writes, it
+    /// tests the flags of their pages alone.
+    #[inline(always)]
+    pub(crate) fn are_own(&self, words: &[(u32, u32)]) -> bool
+        requires { IsTrue (are_inside (length self.now.live) words.now) }
+        ensures { result ≡ true → self.now ≡ record self.now { shared = shared_from 0 self.now.shared ((0, 0) ∷ (0, 0) ∷ word_ranges words.now) } }
+    {
         match words {
-            [one, two] => self.separate_two(one.0, two.0),
-            [one, two, three, four] => self.separate_four(one.0, two.0, three.0, four.0),
-            _ => self.separate_frozen(NOWHERE, NOWHERE, words),
+            [one, two] => !shares_two(&self.shared, one.0, two.0),
+            [one, two, three, four] => has_own_row(&self.shared, one.0, two.0, three.0, four.0),
+            _ => self.have_own_pages(words),
         }
-    }
-
-    /// Parts the page of the `count` bytes at `at`, which are in one page, as `separate_shared` does.
-    #[inline(never)]
-    fn separate_shared_at(&mut self, at: usize, count: usize) -> Result<(), NoFrame>
-        requires frozen { IsSome self.old.frozen }
-        requires small { at < 2 ^ 32 }
-        requires inside { at + count ≤ PAGE_BYTES * (at / PAGE_BYTES) + PAGE_BYTES }
-        ensures ok { IfOk result (λ _. self.new ≡ record self.old { shared = shared_from 0 self.old.shared ((at, count) ∷ (0, 0) ∷ []) }) }
-        ensures err { OnErr result ((self.new ≡ self.old) × (self.old.spare - private_in self.old.shared < wanted_from 0 self.old.shared ((at, count) ∷ (0, 0) ∷ []))) }
-    {
-        self.separate_shared((at, count), NOWHERE, &[])
-    }
-
-    /// Parts the page of the `count` bytes at `at`, which are in one page, if it is shared. It tests one flag.
-    #[inline(always)]
-    pub(crate) fn separate_at(&mut self, at: usize, count: usize) -> Result<(), NoFrame>
-        requires small { at < 2 ^ 32 }
-        requires inside { at + count ≤ PAGE_BYTES * (at / PAGE_BYTES) + PAGE_BYTES }
-        ensures ok { IfOk result (λ _. self.new ≡ record self.old { shared = shared_from 0 self.old.shared ((at, count) ∷ (0, 0) ∷ []) }) }
-        ensures err { OnErr result ((self.new ≡ self.old) × IsSome self.old.frozen × (self.old.spare - private_in self.old.shared < wanted_from 0 self.old.shared ((at, count) ∷ (0, 0) ∷ []))) }
-    {
-        if !self.is_frozen {
-            return Ok(());
-        }
-        if !is_shared(&self.shared, at / PAGE_BYTES) {
-            return Ok(());
-        }
-        self.separate_shared_at(at, count)
     }
 
     /// Makes the pages of a range private, so that the frozen bytes share none of them. `NoFrame`, and nothing changes, if the shared ones

@@ -1,6 +1,6 @@
 //! Which pages the ranges of writes have bytes in.
 
-ghost use Rattle.std.specs.Prelude.{◌≡◌, ℕ, ◌+◌, ◌*◌, ◌/◌, ◌<◌, ◌≤◌, ◌^◌, ◌∷◌, true, false, ◌&&◌, if◌then◌else◌, length, get_or, All, IfSome};
+ghost use Rattle.std.specs.Prelude.{◌≡◌, ℕ, ◌+◌, ◌*◌, ◌/◌, ◌<◌, ◌≤◌, ◌^◌, [], ◌∷◌, true, false, ◌&&◌, ◌||◌, if◌then◌else◌, length, get_or, All, IfSome};
 ghost use Rattle.tp_mem.specs.Lower.{list_any, MAX_PAGES, word_offset, block_ranges, word_ranges, touches, wanted_from};
 
 use crate::address::{offset, word_offset};
@@ -83,6 +83,30 @@ fn shares_word(shared: &[bool], words: &[(u32, u32)]) -> bool
     words
         .iter()
         .any(|word| is_shared(shared, word_offset(word.0) / PAGE_BYTES))
+}
+
+/// Whether the word of one of two addresses is in a shared page.
+#[inline(always)]
+pub(crate) fn shares_two(shared: &[bool], one: u32, two: u32) -> bool
+    requires one { word_offset one / PAGE_BYTES < length shared.now }
+    requires two { word_offset two / PAGE_BYTES < length shared.now }
+    ensures { result ≡ (get_or shared.now (word_offset one / PAGE_BYTES) false || get_or shared.now (word_offset two / PAGE_BYTES) false) }
+{
+    shared[word_offset(one) / PAGE_BYTES] || shared[word_offset(two) / PAGE_BYTES]
+}
+
+/// Whether the words of four addresses follow each other, all in one page that isn't shared.
+#[inline(always)]
+pub(crate) fn has_own_row(shared: &[bool], one: u32, two: u32, three: u32, four: u32) -> bool
+    requires { word_offset one / PAGE_BYTES < length shared.now }
+    ensures { result ≡ true → All (λ address. get_or shared.now (word_offset address / PAGE_BYTES) false ≡ false) (one ∷ two ∷ three ∷ four ∷ []) }
+{
+    let at = word_offset(one);
+    two.wrapping_sub(one) == 4
+        && three.wrapping_sub(one) == 8
+        && four.wrapping_sub(one) == 12
+        && at % PAGE_BYTES + 16 <= PAGE_BYTES
+        && !shared[at / PAGE_BYTES]
 }
 
 /// Whether two ranges, or words that are written, may have bytes in a shared page.

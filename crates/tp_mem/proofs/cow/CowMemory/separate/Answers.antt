@@ -11,7 +11,7 @@ returns-then-not-self-clause-ok c =
     let ranges = c.args.first ∷ c.args.block ∷ word_ranges c.args.words.now in
     let thawed : v.is_frozen ≡ false = grind arith in
     with_shared c.args.self.now _ (shared_from-untouched 0 c.args.self.now.shared ranges (λ i shared.
-    let frozen = (at_page v.live.items v.shared.items v.copies.items v.pool v.is_frozen c.self.invariant i (ap (λ (m : Paged). get_or m.shared i false) c.self.view_is ∙ shared)).0 in
+    let frozen = (at_page v.live v.shared.items v.copies.items v.pool v.is_frozen c.self.invariant i (ap (λ (m : Paged). get_or m.shared i false) c.self.view_is ∙ shared)).0 in
     absurd (let no = sym thawed ∙ frozen in cc)))
 
 pub returns-then-not-self-clause-fits : goal.returns-then-not-self-clause-fits
@@ -20,6 +20,6 @@ returns-then-not-self-clause-fits c =
     let ranges = c.args.first ∷ c.args.block ∷ word_ranges c.args.words.now in
     let thawed : v.is_frozen ≡ false = grind arith in
     let none = wanted_from-untouched 0 c.args.self.now.shared ranges (λ i shared.
-    let frozen = (at_page v.live.items v.shared.items v.copies.items v.pool v.is_frozen c.self.invariant i (ap (λ (m : Paged). get_or m.shared i false) c.self.view_is ∙ shared)).0 in
+    let frozen = (at_page v.live v.shared.items v.copies.items v.pool v.is_frozen c.self.invariant i (ap (λ (m : Paged). get_or m.shared i false) c.self.view_is ∙ shared)).0 in
     absurd (let no = sym thawed ∙ frozen in cc)) in
     omega (arith, none)

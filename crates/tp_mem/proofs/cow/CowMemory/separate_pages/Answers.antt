@@ -8,13 +8,13 @@ use Rattle.tp_mem.proofs.cow.CowMemory.separate_pages.Goals as goal
 pub wanted-requires-clause-few : goal.wanted-requires-clause-few
 wanted-requires-clause-few c =
     let v = c.self.inside in
-    rw c.deref.ensures.value (few_flags v.live.items v.shared.items v.copies.items v.pool v.is_frozen c.self.invariant)
+    rw c.deref.ensures.value (few_flags v.live v.shared.items v.copies.items v.pool v.is_frozen c.self.invariant)
 
 pub returns-then-wanted-free-clause-err : goal.returns-then-wanted-free-clause-err
 returns-then-wanted-free-clause-err c =
     let v = c.self.inside in
     let some = subst (λ (m : Paged). IsSome m.frozen) (sym c.self.view_is) c.requires.frozen in
-    let private = private_is v.live.items v.shared.items v.copies.items v.pool v.is_frozen c.self.invariant (frozen_is v.is_frozen _ some) in
+    let private = private_is v.live v.shared.items v.copies.items v.pool v.is_frozen c.self.invariant (frozen_is v.is_frozen _ some) in
     let wanted = c.wanted.ensures ∙ ap (λ pages. wanted_from 0 pages (c.args.first ∷ c.args.block ∷ word_ranges c.args.words.now)) c.deref.ensures.value in
     (refl, rw (← c.self.view_is) (omega (arith, private, wanted, c.free.ensures, c.if-wanted-free.true)))
 
@@ -32,7 +32,7 @@ part_touched-requires-clause-room c =
     let v = c.self.inside in
     let ranges = c.args.first ∷ c.args.block ∷ word_ranges c.args.words.now in
     let some = subst (λ (m : Paged). IsSome m.frozen) (sym c.self.view_is) c.requires.frozen in
-    let private = private_is v.live.items v.shared.items v.copies.items v.pool v.is_frozen c.self.invariant (frozen_is v.is_frozen _ some) in
+    let private = private_is v.live v.shared.items v.copies.items v.pool v.is_frozen c.self.invariant (frozen_is v.is_frozen _ some) in
     let wanted = c.wanted.ensures ∙ ap (λ pages. wanted_from 0 pages ranges) c.deref.ensures.value in
     let room : private_in c.args.self.now.shared + wanted_from 0 c.args.self.now.shared ranges ≤ c.args.self.now.spare =
     rw (← c.self.view_is) (omega (arith, private, wanted, c.free.ensures, c.if-wanted-free.false)) in
@@ -58,6 +58,6 @@ returns-clause-fits c =
     let v = c.self.inside in
     let ranges = c.args.first ∷ c.args.block ∷ word_ranges c.args.words.now in
     let some = subst (λ (m : Paged). IsSome m.frozen) (sym c.self.view_is) c.requires.frozen in
-    let private = private_is v.live.items v.shared.items v.copies.items v.pool v.is_frozen c.self.invariant (frozen_is v.is_frozen _ some) in
+    let private = private_is v.live v.shared.items v.copies.items v.pool v.is_frozen c.self.invariant (frozen_is v.is_frozen _ some) in
     let wanted = c.wanted.ensures ∙ ap (λ pages. wanted_from 0 pages ranges) c.deref.ensures.value in
     rw (← c.self.view_is) (omega (arith, private, wanted, c.free.ensures, c.if-wanted-free.false))

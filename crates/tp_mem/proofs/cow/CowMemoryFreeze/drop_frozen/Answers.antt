@@ -9,7 +9,7 @@ invariant_of-self c =
     let v = c.self.inside in let i = c.self.invariant in
     let long : length c.let_go.new.copies ≡ length v.copies.items = omega (arith, c.let_go.auto.copies, ap length c.deref_mut.ensures.value) in
     let pages : v.shared.len ≡ length v.copies.items = v.shared.ok.0 ∙ ap length i.flags ∙ length-shared_of v.is_frozen v.copies.items in
-    subst (λ copies. IsPaged v.live.items c.fill.new.self.items copies c.let_go.new.pool false) (sym (items_again v.copies.items c.let_go.new.copies v.copies.len (long ∙ sym v.copies.ok.0)))
+    subst (λ copies. IsPaged v.live c.fill.new.self.items copies c.let_go.new.pool false) (sym (items_again v.copies.items c.let_go.new.copies v.copies.len (long ∙ sym v.copies.ok.0)))
     (record {
       whole = omega (arith, i.whole, long);
       few = omega (arith, i.few, long);

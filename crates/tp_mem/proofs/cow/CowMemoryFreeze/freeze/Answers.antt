@@ -25,7 +25,7 @@ returns-clause-frozen c =
     let v = c.self.inside in let i = c.self.invariant in
     let thawed = not_frozen v.is_frozen _ (subst (λ (m : Paged). IsNone m.frozen) (sym c.self.view_is) c.requires) in
     let none = i.thawed thawed in
-    rw (← c.self.view_is) (paged_same v.live.items _ _ _ _ _ _ (ap Some (frozen_from-none 0 v.live.items v.copies.items v.pool (omega (arith, i.whole)) none)) (c.fill.ensures.items (λ y same. same) ∙ ap (λ n. replicate n true) v.shared.ok.0) refl)
+    rw (← c.self.view_is) (paged_same v.live _ _ _ _ _ _ (ap Some (frozen_from-none 0 v.live v.copies.items v.pool (omega (arith, i.whole)) none)) (c.fill.ensures.items (λ y same. same) ∙ ap (λ n. replicate n true) v.shared.ok.0) refl)
 
 pub returns-clause-thawed : goal.returns-clause-thawed
 returns-clause-thawed c =

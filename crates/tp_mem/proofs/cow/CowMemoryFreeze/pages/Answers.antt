@@ -21,4 +21,4 @@ returns-clause-frozen c =
     let v = c.self.inside in let i = c.self.invariant in
     let pages : length v.copies.items ≡ c.len.result = omega (arith, c.len.ensures, v.shared.ok.0, ap length i.flags, length-shared_of v.is_frozen v.copies.items) in
     subst (λ (m : Paged). IfSome m.frozen (λ kept. length kept ≡ PAGE_BYTES * c.len.result)) c.self.view_is
-    (IfSome-map {A = List ℕ} (frozen_of v.is_frozen v.live.items v.copies.items v.pool) (λ kept. length kept ≡ PAGE_BYTES * length v.copies.items) (λ kept. length kept ≡ PAGE_BYTES * c.len.result) (λ kept long. long ∙ ap (λ n. PAGE_BYTES * n) pages) (length-frozen_of v.live.items v.shared.items v.copies.items v.pool v.is_frozen i))
+    (IfSome-map {A = List ℕ} (frozen_of v.is_frozen v.live v.copies.items v.pool) (λ kept. length kept ≡ PAGE_BYTES * length v.copies.items) (λ kept. length kept ≡ PAGE_BYTES * c.len.result) (λ kept long. long ∙ ap (λ n. PAGE_BYTES * n) pages) (length-frozen_of v.live v.shared.items v.copies.items v.pool v.is_frozen i))
