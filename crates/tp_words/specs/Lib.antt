@@ -19,3 +19,4 @@ pub mod BackupArgs
 pub mod StopArgs
 pub mod Commands
 pub mod Explaining
+pub mod Told

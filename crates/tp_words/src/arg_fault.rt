@@ -1,6 +1,7 @@
 //! Why words ask for nothing, and what is said then.
 
 ghost use Rattle.std.specs.Prelude.{◌≡◌};
+ghost use Rattle.tp_words.specs.Told.{arg_text};
 ghost use Rattle.tp_words.specs.declared.arg_fault.ArgFault.TheVariants.{Memory};
 
 use crate::args::MAX_WORDS;
@@ -77,6 +78,8 @@ fn say_range<W: fmt::Write>(
 }
 
 impl fmt::Display for ArgFault {
+    ghost output = { λ fault. arg_text fault };
+
     fn fmt<W: fmt::Write>(&self, f: &mut fmt::Formatter<W>) -> fmt::Result {
         match self {
             ArgFault::Words(error) => write!(f, "{error}"),

@@ -5,6 +5,7 @@ ghost use Rattle.tp_words.specs.Lower.{decimal, MAX_PORTS, standard_port};
 ghost use Rattle.tp_words.specs.Ends.{AreEnds, AreSound, IsFaultOf, IsFile, IsFirstFault, IsHave, IsNoFile, IsNoHave, IsNoPort, IsPort, IsRefused, IsTextFault, WereTyped, fault_at, file_text, have_text, id_of, reader_fault, standard_count};
 ghost use Rattle.tp_words.specs.Given.{all_given};
 ghost use Rattle.tp_words.specs.Standard.{AreStandard};
+ghost use Rattle.tp_words.specs.Told.{ends_text};
 ghost use Rattle.tp_words.specs.declared.stream_ends.EndsFault.TheVariants.{File, Have, Discard, Memory};
 
 use crate::numbers::{after_first, all_given_in, number_of};
@@ -73,6 +74,8 @@ fn say_two<W: fmt::Write>(f: &mut fmt::Formatter<W>, id: &str) -> fmt::Result {
 }
 
 impl fmt::Display for EndsFault {
+    ghost output = { λ fault. ends_text fault };
+
     fn fmt<W: fmt::Write>(&self, f: &mut fmt::Formatter<W>) -> fmt::Result {
         match self {
             EndsFault::File(option) => say_file(f, option.id()),
