@@ -3,6 +3,8 @@ pub mod Maps
 pub mod JsonMaps
 pub mod NodeMaps
 pub mod Front
+pub mod Refused
+pub mod Explained
 pub mod Json
 pub mod Fields
 pub mod Names

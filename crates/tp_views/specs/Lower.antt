@@ -6,6 +6,8 @@ pub use Rattle.std.specs.Option.{option_and_then, option_map, unwrap_or}
 unfoldable pub use Rattle.std.specs.Str.{is_utf8}
 pub use Rattle.std.specs.Str.Parse.{digits_value}
 pub use Rattle.std.specs.declared.alloc.Global.{Global}
+pub use Rattle.std.specs.declared.io.ErrorKind.{ErrorKind}
+pub use Rattle.std.specs.declared.io.ErrorKind.TheVariants.{FileTooLarge, IsADirectory, OutOfMemory, QuotaExceeded, StorageFull}
 pub use Rattle.std.specs.declared.string.String.{String}
 pub use Rattle.tp_model.specs.Bytes.{u32_at, u8_at}
 pub use Rattle.tp_model.specs.Device.{area_start, areas_end}
@@ -63,7 +65,7 @@ pub use Rattle.tp_node.specs.declared.standing.Standing.TheVariants.{Free, Halte
 pub use Rattle.tp_node.specs.declared.waiter.Deed.{Deed}
 pub use Rattle.tp_node.specs.declared.waiter.Deed.TheVariants.{Chooses, Inputs, Sends}
 pub use Rattle.tp_node.specs.declared.waiter.Waiter.{Waiter}
-pub use Rattle.tp_turn.specs.Output.{IsOutput}
+pub use Rattle.tp_turn.specs.Output.{IsOutput, TrialAs}
 pub use Rattle.tp_turn.specs.Tried.{fresh_image}
 pub use Rattle.tp_turn.specs.declared.image.TryFault.{TryFault}
 pub use Rattle.tp_turn.specs.declared.image.TryFault.TheVariants.{BadImage, Memory, Memory as NodeMemory}

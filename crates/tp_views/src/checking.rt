@@ -1,10 +1,11 @@
 //! `tpnet check`: a topology and its images, and how large an area has to be.
 
-ghost use Rattle.std.specs.Prelude.{◌≡◌, ◌⊎◌, ◌≤◌, ◌++◌, IfOk, IsErr, IsSome, None, OnOk, map, string_bytes, true};
+ghost use Rattle.std.specs.Prelude.{◌≡◌, ◌⊎◌, ◌≤◌, ◌++◌, IfOk, IsErr, IsSome, None, OnOk, map, string_bytes, true, IfErr};
 ghost use Rattle.tp_views.specs.Lower.{Appends, start_of, is_topology};
 ghost use Rattle.tp_views.specs.Checked.{area_fields, area_for, areas_text, default_area, shape_fields, size_fields, topology_said};
 ghost use Rattle.tp_views.specs.Fields.{fields_text};
 ghost use Rattle.tp_views.specs.Front.{AppendsFront};
+ghost use Rattle.tp_views.specs.Refused.{IsCheckFault, IsFormatFault, IsPrintFault};
 
 use crate::areas::default_area;
 use crate::commands::{put, refuse};
@@ -23,7 +24,8 @@ use tp_net::Topology;
 /// Tests whether a device may be formatted with the images, on a device that keeps no bytes. Fails with the reason if it may not.
 fn check_images(alloc: Global, topology: &Topology, images: &[Vec<u8>]) -> Result<(), Refusal>
     requires { is_topology topology.now ≡ true }
-    ensures { OnOk result (IsSome (start_of topology.now (map (λ image. image.items) images.now))) }
+    ensures fit { OnOk result (IsSome (start_of topology.now (map (λ image. image.items) images.now))) }
+    ensures fault { IfErr result IsFormatFault }
 {
     let mut nothing = MemDisk::of_bytes(Vec::new(alloc));
     match format(alloc, &mut nothing, topology, images, 0) {
@@ -154,10 +156,9 @@ fn put_checked<O: Write>(
     requires { is_topology topology.now ≡ true }
     ensures printed { OnOk result (Appends (O.contents out.old) (O.contents out.new) (topology_said json topology.now)) }
     ensures front { (O.contents out.new ≡ O.contents out.old) ⊎ AppendsFront (O.contents out.old) (O.contents out.new) (topology_said json topology.now) }
+    ensures fault { IfErr result IsPrintFault }
 {
-    let Ok(text) = topology_said(alloc, topology, json) else {
-        return Err(Refusal::Memory);
-    };
+    let text = topology_said(alloc, topology, json)?;
     put(out, text.as_bytes())
 }
 
@@ -173,6 +174,7 @@ fn check<O: Write>(
     ensures printed { OnOk result (Appends (O.contents out.old) (O.contents out.new) (topology_said json topology.now)) }
     ensures front { (O.contents out.new ≡ O.contents out.old) ⊎ AppendsFront (O.contents out.old) (O.contents out.new) (topology_said json topology.now) }
     ensures refused { start_of topology.now (map (λ image. image.items) images.now) ≡ None → (IsErr result) × (O.contents out.new ≡ O.contents out.old) }
+    ensures fault { IfErr result IsCheckFault }
 {
     match check_images(alloc, topology, images) {
         Ok(()) => put_checked(alloc, topology, json, out),

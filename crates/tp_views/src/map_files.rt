@@ -1,5 +1,7 @@
 //! The maps of a device's nodes, as files of a folder, and what is wrong with them.
 
+ghost use Rattle.std.specs.Prelude.{◌≡◌, false, Ok, string_bytes};
+
 use crate::explanations::looking::{is_regular, read_again};
 use crate::maps::{MapFault, read_map};
 use std::alloc::{AllocError, Global};
@@ -25,6 +27,23 @@ fn push_line(text: &mut String, path: &str, number: u64) -> Result<(), AllocErro
     )
 }
 
+/// Says why a map isn't read, if its text has a bad line. Answers whether anything was said.
+pub(crate) fn push_map_fault(
+    text: &mut String,
+    path: &str,
+    fault: MapFault,
+) -> Result<bool, AllocError>
+    ensures { fault ≡ MapFault.Memory → (result ≡ Ok false) × (string_bytes text.new ≡ string_bytes text.old) }
+{
+    match fault {
+        MapFault::Line(number) => {
+            push_line(text, path, number)?;
+            Ok(true)
+        }
+        MapFault::Memory => Ok(false),
+    }
+}
+
 /// Says what is wrong with a map. Answers whether anything is.
 fn push_map(
     alloc: Global,
@@ -33,16 +52,13 @@ fn push_map(
     bytes: &[u8],
 ) -> Result<bool, AllocError> {
     match read_map(alloc, bytes) {
-        Err(MapFault::Line(number)) => {
-            push_line(text, path, number)?;
-            Ok(true)
-        }
-        Err(MapFault::Memory) | Ok(_) => Ok(false),
+        Ok(_) => Ok(false),
+        Err(fault) => push_map_fault(text, path, fault),
     }
 }
 
 /// Says what is wrong with the map in a file. Answers whether anything is.
-pub(crate) fn push_map_file<R: Files + AllocGlobal>(
+fn push_map_file<R: Files + AllocGlobal>(
     rt: &R,
     text: &mut String,
     path: &str,

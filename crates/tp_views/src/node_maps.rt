@@ -3,6 +3,7 @@
 ghost use Rattle.std.specs.Prelude.{◌≡◌, [], Ok, IfErr, IfOk, get_or, map};
 ghost use Rattle.tp_views.specs.Maps.{maps_in, no_maps, read_map, rows_of, rows_read, rows_seen};
 ghost use Rattle.tp_views.specs.NodeMaps.{IsMapRefusal, maps_seen, refusal_of};
+ghost use Rattle.tp_views.specs.Refused.{IsMapsFault};
 
 use crate::maps::{MapFault, MapRow, read_map};
 use crate::refusal::{MapFile, Refusal};
@@ -66,14 +67,12 @@ pub fn read_rows<'a>(
 
 /// Reads the maps of nodes, each at its node's number.
 fn read_own<'a>(alloc: Global, texts: &'a [Vec<u8>]) -> Result<Vec<Vec<MapRow<'a>>>, Refusal>
-    ensures { IfOk result (λ own. map (λ rows. rows_seen rows.items) own.items ≡ map (λ text. rows_read (read_map text.items)) texts.now) }
+    ensures own { IfOk result (λ own. map (λ rows. rows_seen rows.items) own.items ≡ map (λ text. rows_read (read_map text.items)) texts.now) }
+    ensures fault { IfErr result IsMapsFault }
 {
     let mut own = Vec::new(alloc);
     for (node, text) in texts.iter().enumerate() {
-        let rows = read_rows(alloc, text.as_slice(), MapFile::Node(node))?;
-        let Ok(()) = own.push(rows) else {
-            return Err(Refusal::Memory);
-        };
+        own.push(read_rows(alloc, text.as_slice(), MapFile::Node(node))?)?;
     }
     Ok(own)
 }
@@ -84,7 +83,8 @@ pub fn read_maps<'a>(
     own: &'a [Vec<u8>],
     all: &'a [u8],
 ) -> Result<NodeMaps<'a>, Refusal>
-    ensures { IfOk result (λ maps. maps_seen maps ≡ maps_in (map (λ text. text.items) own.now) all.now) }
+    ensures maps { IfOk result (λ maps. maps_seen maps ≡ maps_in (map (λ text. text.items) own.now) all.now) }
+    ensures fault { IfErr result IsMapsFault }
 {
     Ok(NodeMaps {
         own: read_own(alloc, own)?,

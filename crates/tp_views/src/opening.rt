@@ -1,9 +1,10 @@
 //! `tpnet recover` and `tpnet show`, over any device.
 
-ghost use Rattle.std.specs.Prelude.{◌≡◌, ◌≤◌, IfOk, IsErr, OnOk, string_bytes};
+ghost use Rattle.std.specs.Prelude.{◌≡◌, ◌≤◌, IfOk, IsErr, OnOk, string_bytes, IfErr};
 ghost use Rattle.tp_views.specs.Lower.{AreTrue, WereTrue, verdict, LeavesNothingNew};
 ghost use Rattle.tp_views.specs.Front.{PrintsFront};
 ghost use Rattle.tp_views.specs.Opens.{IsUnwritten, Prints, front_said, recovered, shown};
+ghost use Rattle.tp_views.specs.Refused.{IsViewFault};
 
 use crate::by_workers::open_steady_by;
 use crate::commands::{put, refuse};
@@ -43,14 +44,13 @@ fn recover<D: Disk, O: Write, R: Threads + Sync>(
     ensures front { AreTrue (D.reads disk.new) → PrintsFront recovered (D.state disk.old).now.bytes (O.contents out.old) (O.contents out.new) }
     ensures kept { IsUnwritten (D.failures_of disk.old) (D.failures_of disk.new) (D.state disk.old).now (D.state disk.new).now }
     ensures refused { AreTrue (D.reads disk.new) → IsErr (verdict (D.state disk.old).now.bytes) → (IsErr result) × (O.contents out.new ≡ O.contents out.old) }
+    ensures fault { IfErr result IsViewFault }
 {
     let Tried::Steady(answer) = open_steady_by(rt, alloc, disk, workers) else {
         return Err(Refusal::Busy);
     };
     let opened = answer?;
-    let Ok(text) = next_line(alloc, opened.next()) else {
-        return Err(Refusal::Memory);
-    };
+    let text = next_line(alloc, opened.next())?;
     put(out, text.as_bytes())
 }
 
@@ -73,14 +73,13 @@ fn show<D: Disk, O: Write>(
     ensures front { AreTrue (D.reads disk.new) → PrintsFront (shown json) (D.state disk.old).now.bytes (O.contents out.old) (O.contents out.new) }
     ensures kept { IsUnwritten (D.failures_of disk.old) (D.failures_of disk.new) (D.state disk.old).now (D.state disk.new).now }
     ensures refused { AreTrue (D.reads disk.new) → IsErr (verdict (D.state disk.old).now.bytes) → (IsErr result) × (O.contents out.new ≡ O.contents out.old) }
+    ensures fault { IfErr result IsViewFault }
 {
     let Tried::Steady(answer) = open_steady(alloc, disk) else {
         return Err(Refusal::Busy);
     };
     let opened = answer?;
-    let Ok(text) = text_of(alloc, json, &opened) else {
-        return Err(Refusal::Memory);
-    };
+    let text = text_of(alloc, json, &opened)?;
     put(out, text.as_bytes())
 }
 

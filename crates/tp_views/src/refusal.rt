@@ -1,5 +1,10 @@
 //! Why a command wasn't done.
 
+ghost use Rattle.std.specs.Prelude.{◌≡◌, Some};
+ghost use Rattle.tp_views.specs.Refused.{file_text, refusal_name};
+ghost use Rattle.tp_views.specs.declared.refusal.Refusal.TheVariants.{Format, Memory, Opening, Topology};
+
+use std::alloc::{AllocError, AllocFailed};
 use std::fmt;
 use tp_area::FormatFault;
 use tp_model::NetFault;
@@ -18,6 +23,8 @@ pub enum MapFile {
 }
 
 impl fmt::Display for MapFile {
+    ghost output = { λ file. Some (file_text file) };
+
     fn fmt<W: fmt::Write>(&self, f: &mut fmt::Formatter<W>) -> fmt::Result {
         match self {
             MapFile::Named => Ok(()),
@@ -57,6 +64,8 @@ pub enum Refusal {
 }
 
 impl fmt::Display for Refusal {
+    ghost output = { λ refusal. refusal_name refusal };
+
     fn fmt<W: fmt::Write>(&self, f: &mut fmt::Formatter<W>) -> fmt::Result {
         match self {
             Refusal::Trial(cause) => fmt::Display::fmt(cause, f),
@@ -76,19 +85,41 @@ impl fmt::Display for Refusal {
 }
 
 impl From<NetFault> for Refusal {
+    ghost from_gives = { λ fault refusal. refusal ≡ Topology fault };
+
     fn from(fault: NetFault) -> Refusal {
         Refusal::Topology(fault)
     }
 }
 
 impl From<FormatFault> for Refusal {
+    ghost from_gives = { λ fault refusal. refusal ≡ Format fault };
+
     fn from(fault: FormatFault) -> Refusal {
         Refusal::Format(fault)
     }
 }
 
 impl From<Unopened> for Refusal {
+    ghost from_gives = { λ unopened refusal. refusal ≡ Opening unopened };
+
     fn from(unopened: Unopened) -> Refusal {
         Refusal::Opening(unopened)
+    }
+}
+
+impl From<AllocError> for Refusal {
+    ghost from_gives = { λ _ refusal. refusal ≡ Memory };
+
+    fn from(_error: AllocError) -> Refusal {
+        Refusal::Memory
+    }
+}
+
+impl<T: Drop> From<AllocFailed<T>> for Refusal {
+    ghost from_gives = { λ _ refusal. refusal ≡ Memory };
+
+    fn from(_error: AllocFailed<T>) -> Refusal {
+        Refusal::Memory
     }
 }

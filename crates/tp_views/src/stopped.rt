@@ -1,5 +1,7 @@
 //! Which nodes have halted. It is said after a run or a trial.
 
+ghost use Rattle.tp_views.specs.Lower.{TrialAs, fresh_image};
+
 use crate::commands::TRY_QUANTUM;
 use crate::explanations::looking::open_to_read;
 use std::alloc::Global;
@@ -11,7 +13,7 @@ use tp_model::limits::MAX_NODES;
 use tp_node::{Node, Standing};
 use tp_recover::open;
 use tp_stream_files::{Stopped, say_stopped};
-use tp_turn::try_standing;
+use tp_turn::{Trial, TryFault, try_standing};
 use tp_words::Asked;
 
 /// Says at which address a node has halted. Ignores a failed write.
@@ -46,9 +48,16 @@ fn tell_run<R: Files<File = F> + AllocGlobal, F: FileExt + OpenFile + Drop, E: W
     }
 }
 
+/// Tries the node of this image again, as `attempt` does.
+fn trial_of(alloc: Global, image: &[u8], turns: u32) -> Result<Trial, TryFault>
+    ensures { TrialAs (fresh_image image.now) turns TRY_QUANTUM result }
+{
+    try_standing(alloc, image, turns, TRY_QUANTUM)
+}
+
 /// Says whether the node of this image has halted after its turns. If memory runs out, or the bytes are no image, it says nothing.
 fn tell_image<E: Write>(alloc: Global, image: &[u8], turns: u32, err: &mut E) {
-    if let Ok(trial) = try_standing(alloc, image, turns, TRY_QUANTUM) {
+    if let Ok(trial) = trial_of(alloc, image, turns) {
         say_halted(0, trial.standing, err);
     }
 }

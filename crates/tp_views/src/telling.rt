@@ -5,6 +5,7 @@ ghost use Rattle.tp_views.specs.Lower.{AreTrue, WereTrue, Appends, verdict, Leav
 ghost use Rattle.tp_views.specs.Front.{AppendsFront, PrintsFront};
 ghost use Rattle.tp_views.specs.Looks.{StatusTells};
 ghost use Rattle.tp_views.specs.Opens.{IsUnwritten};
+ghost use Rattle.tp_views.specs.Refused.{IsPrintFault, IsViewFault};
 ghost use Rattle.tp_views.specs.Status.{IsSeen, look_text};
 
 use crate::commands::{put, refuse};
@@ -30,10 +31,9 @@ fn put_line<O: Write>(
 ) -> Result<(), Refusal>
     ensures printed { OnOk result (Appends (O.contents out.old) (O.contents out.new) (look_text json held at clock before.now opened.now)) }
     ensures front { (O.contents out.new ≡ O.contents out.old) ⊎ AppendsFront (O.contents out.old) (O.contents out.new) (look_text json held at clock before.now opened.now) }
+    ensures fault { IfErr result IsPrintFault }
 {
-    let Ok(text) = look_text(alloc, json, held, at, clock, before, opened) else {
-        return Err(Refusal::Memory);
-    };
+    let text = look_text(alloc, json, held, at, clock, before, opened)?;
     put(out, text.as_bytes())
 }
 
@@ -51,10 +51,9 @@ fn tell<O: Write>(
     ensures printed { IfOk result (λ seen. Appends (O.contents out.old) (O.contents out.new) (look_text json held at clock before.now opened.now)) }
     ensures seen { IfOk result (λ seen. IsSeen at opened.now seen) }
     ensures front { (O.contents out.new ≡ O.contents out.old) ⊎ AppendsFront (O.contents out.old) (O.contents out.new) (look_text json held at clock before.now opened.now) }
+    ensures fault { IfErr result IsPrintFault }
 {
-    let Ok(seen) = seen_of(alloc, at, opened) else {
-        return Err(Refusal::Memory);
-    };
+    let seen = seen_of(alloc, at, opened)?;
     put_line(alloc, opened, held, at, clock, before, json, out)?;
     Ok(seen)
 }
@@ -75,6 +74,7 @@ fn look<D: Disk, O: Write>(
     ensures front { AreTrue (D.reads disk.new) → PrintsFront (look_text json held at clock before.now) (D.state disk.old).now.bytes (O.contents out.old) (O.contents out.new) }
     ensures kept { IsUnwritten (D.failures_of disk.old) (D.failures_of disk.new) (D.state disk.old).now (D.state disk.new).now }
     ensures refused { AreTrue (D.reads disk.new) → IsErr (verdict (D.state disk.old).now.bytes) → (IsErr result) × (O.contents out.new ≡ O.contents out.old) }
+    ensures fault { IfErr result IsViewFault }
 {
     let Tried::Steady(answer) = open_steady(alloc, disk) else {
         return Err(Refusal::Busy);

@@ -1,5 +1,8 @@
 //! What `--explain` says of a device that doesn't open: what is at the damaged place, and which rule it breaks.
 
+ghost use Rattle.std.specs.Prelude.{◌≡◌, ◌⊎◌, ◌++◌, OnOk, string_bytes};
+ghost use Rattle.tp_views.specs.Explained.{changed_text};
+
 use crate::explanations::head_rules::push_broken;
 use crate::explanations::image_rules::broken_rule;
 use crate::explanations::places::{Layout, Record, layout_of};
@@ -164,18 +167,17 @@ fn push_front<D: Disk>(text: &mut String, disk: &mut D, start: u64) -> Result<()
     }
 }
 
-/// Says what is at an offset of a device, in the record that begins at `start`.
+/// Says which record begins at an offset of a device.
 fn push_place(
     text: &mut String,
     layout: &Layout,
     at: u64,
     record: Record,
-    start: u64,
 ) -> Result<(), AllocError> {
     write!(text, "  offset {at} is in ")?;
     let rule = layout.record_words(record);
     push_words(text, rule.words, &rule.values)?;
-    write!(text, ", from {start} on\n")
+    write!(text, ", from {at} on\n")
 }
 
 /// Says what is wrong at an offset of a device.
@@ -188,7 +190,7 @@ fn push_damage<D: Disk>(
     at: u64,
 ) -> Result<(), AllocError> {
     let place = layout.place(at);
-    push_place(text, layout, at, place.record, place.start)?;
+    push_place(text, layout, at, place.record)?;
     match place.record {
         Record::Head => push_head(text, disk.size(), layout, head),
         Record::Image { pages, .. } => push_node(alloc, text, disk, place.start, pages),
@@ -214,7 +216,9 @@ fn push_behind<D: Disk>(
     version: HeadVersion,
     head: &[u8],
     fault: OpenFault,
-) -> Result<(), AllocError> {
+) -> Result<(), AllocError>
+    ensures { (fault ≡ OpenFault.NotFormatted) ⊎ (fault ≡ OpenFault.BadVersion) → OnOk result (string_bytes text.new ≡ string_bytes text.old ++ changed_text) }
+{
     let layout = layout_of(version, head);
     match fault {
         OpenFault::NoOpenArea => push_gates(text, disk, &layout),

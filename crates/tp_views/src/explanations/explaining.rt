@@ -1,5 +1,7 @@
 //! What `--explain` says of a refusal: which file, why, and the way out. It checks again what the command checked.
 
+ghost use Rattle.std.specs.Prelude.{◌≡◌, IfOk, None, Some};
+
 use crate::explanations::explaining_trace::push_trace;
 use crate::explanations::full_journal::push_journal;
 use crate::explanations::looking::{
@@ -134,7 +136,9 @@ fn input_length<R: Files + AllocGlobal>(
     rt: &R,
     text: &mut String,
     run: &Run,
-) -> Result<Option<usize>, AllocError> {
+) -> Result<Option<usize>, AllocError>
+    ensures { run.now.input ≡ None → IfOk result (λ length. length ≡ Some 0) }
+{
     let Some(path) = &run.input else {
         return Ok(Some(0));
     };

@@ -3,10 +3,10 @@
 use crate::explanations::image_rules::broken_rule;
 use crate::explanations::looking::{push_rest, read_again};
 use crate::explanations::network_files::push_image_rule;
-use crate::map_files::push_map_file;
+use crate::map_files::push_map_fault;
 use crate::maps::{MapRow, read_map};
 use crate::trace::placing::stops_at;
-use std::alloc::{AllocError, Global};
+use std::alloc::AllocError;
 use std::fmt::Write;
 use std::fs::Files;
 use tp_words::{ImageTrace, Shown, TraceLines};
@@ -109,15 +109,10 @@ fn push_below(
 
 /// Says which place names no address, or none that can be watched: whether one does.
 fn push_places(
-    alloc: Global,
     text: &mut String,
-    map: &[u8],
+    rows: &[MapRow<'_>],
     trace: &ImageTrace,
 ) -> Result<bool, AllocError> {
-    let Ok(rows) = read_map(alloc, map) else {
-        return Ok(false);
-    };
-    let rows = rows.as_slice();
     Ok(
         push_place(text, rows, &trace.until)?
             || push_place(text, rows, &trace.watch)?
@@ -132,14 +127,14 @@ fn push_map<R: Files + AllocGlobal>(
     trace: &ImageTrace,
 ) -> Result<bool, AllocError> {
     let Some(path) = &trace.map else {
-        return push_places(rt.alloc(), text, &[], trace);
+        return push_places(text, &[], trace);
     };
-    if push_map_file(rt, text, path.as_str())? {
+    let Some(map) = read_again(rt, text, path.as_str())? else {
         return Ok(true);
-    }
-    match read_again(rt, text, path.as_str())? {
-        Some(map) => push_places(rt.alloc(), text, map.as_slice(), trace),
-        None => Ok(true),
+    };
+    match read_map(rt.alloc(), map.as_slice()) {
+        Ok(rows) => push_places(text, rows.as_slice(), trace),
+        Err(fault) => push_map_fault(text, path.as_str(), fault),
     }
 }
 

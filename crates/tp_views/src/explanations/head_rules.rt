@@ -1,5 +1,8 @@
 //! Which rule the bytes of a device's head break.
 
+ghost use Rattle.std.specs.Prelude.{◌≡◌, ◌<◌, ◌^◌};
+ghost use Rattle.tp_model.specs.Bytes.{u16_at, u64_at};
+
 use crate::explanations::rules::{NOTHING, Rule, push_words};
 use crate::text::parts::Part::{Byte, Number};
 use std::alloc::AllocError;
@@ -49,7 +52,7 @@ const EARLIER: &[&str] = &["port ", ", to which an earlier link leads"];
 const NO_END: &[&str] = &["no link or port that is there"];
 
 /// How many nodes a head of this version has fields for.
-pub(crate) fn most_nodes(version: HeadVersion) -> usize {
+fn most_nodes(version: HeadVersion) -> usize {
     match version {
         HeadVersion::Narrow => NARROW_HEAD_NODES,
         HeadVersion::Wide => WIDE_HEAD_NODES,
@@ -81,17 +84,26 @@ fn end_bytes(version: HeadVersion) -> usize {
 }
 
 /// Reads the number of two bytes at offset `at`, the low one first.
-pub(crate) fn half_at(bytes: &[u8], at: usize) -> u16 {
+pub(crate) fn half_at(bytes: &[u8], at: usize) -> u16
+    ensures { at < 2 ^ 32 → result ≡ u16_at bytes.now at }
+{
     u16::from_le_bytes([byte_in(bytes, at), byte_in(bytes, at.saturating_add(1))])
 }
 
 /// Reads the number of eight bytes at offset `at`, the lowest one first.
-pub(crate) fn number_at(bytes: &[u8], at: usize) -> u64 {
-    let mut field = [0u8; 8];
-    for (place, byte) in field.iter_mut().enumerate() {
-        *byte = byte_in(bytes, at.saturating_add(place));
-    }
-    u64::from_le_bytes(field)
+pub(crate) fn number_at(bytes: &[u8], at: usize) -> u64
+    ensures { at < 2 ^ 32 → result ≡ u64_at bytes.now at }
+{
+    u64::from_le_bytes([
+        byte_in(bytes, at),
+        byte_in(bytes, at.saturating_add(1)),
+        byte_in(bytes, at.saturating_add(2)),
+        byte_in(bytes, at.saturating_add(3)),
+        byte_in(bytes, at.saturating_add(4)),
+        byte_in(bytes, at.saturating_add(5)),
+        byte_in(bytes, at.saturating_add(6)),
+        byte_in(bytes, at.saturating_add(7)),
+    ])
 }
 
 /// Gives the offset of the pages of a node.

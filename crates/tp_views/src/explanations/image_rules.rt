@@ -1,5 +1,8 @@
 //! Which rule the bytes of a node's image break.
 
+ghost use Rattle.std.specs.Prelude.{◌≡◌, ◌≢◌, IsSome, None, Some};
+ghost use Rattle.tp_model.specs.Image.{node_of};
+
 use crate::explanations::rules::{NOTHING, Rule, push_words};
 use crate::text::parts::Part::{Number, Text, Word};
 use std::alloc::{AllocError, Global};
@@ -65,7 +68,11 @@ const BUSY: &[&str] = &[
 ];
 
 /// Gives the rule about pages that an image breaks, if the topology asks for `wanted` pages; `None` if it breaks none.
-fn wanted_rule(pages: u16, wanted: Option<u16>) -> Option<Rule<3>> {
+fn wanted_rule(pages: u16, wanted: Option<u16>) -> Option<Rule<3>>
+    ensures unasked { wanted ≡ None → result ≡ None }
+    ensures right { wanted ≡ Some pages → result ≡ None }
+    ensures wrong { wanted ≢ None → wanted ≢ Some pages → IsSome result }
+{
     match wanted {
         Some(count) if count != pages => Some(Rule {
             words: WANTED,
@@ -195,6 +202,19 @@ fn head_rule(image: &[u8], must_be_idle: bool) -> Option<Rule<3>> {
     }
 }
 
+/// Gives the rule about the ends of links that an image breaks, if it breaks no other one; `None` if it breaks none, or memory runs out.
+fn end_rule(alloc: Global, image: &[u8]) -> Option<Rule<3>>
+    ensures { IsSome (node_of image.now) → result ≡ None }
+{
+    match Node::from_image(alloc, image, 0) {
+        Err(ImageFault::BadImage) => Some(Rule {
+            words: BAD_END,
+            values: [NOTHING; 3],
+        }),
+        _ => None,
+    }
+}
+
 /// Gives the rule that an image breaks; `None` if it breaks none.
 fn rule_of(alloc: Global, image: &[u8], pages: Option<u16>, must_be_idle: bool) -> Option<Rule<3>> {
     if let Some(rule) = length_rule(image, pages) {
@@ -203,13 +223,7 @@ fn rule_of(alloc: Global, image: &[u8], pages: Option<u16>, must_be_idle: bool) 
     if let Some(rule) = head_rule(image, must_be_idle) {
         return Some(rule);
     }
-    match Node::from_image(alloc, image, 0) {
-        Err(ImageFault::BadImage) => Some(Rule {
-            words: BAD_END,
-            values: [NOTHING; 3],
-        }),
-        _ => None,
-    }
+    end_rule(alloc, image)
 }
 
 /// Gives which rule an image breaks, in words; `None` if it breaks none. On a device, ends may be at work.

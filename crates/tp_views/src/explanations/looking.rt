@@ -1,5 +1,8 @@
 //! What is at a path when it is checked again, and what the system says of it.
 
+ghost use Rattle.std.specs.Prelude.{◌≡◌};
+ghost use Rattle.tp_views.specs.Explained.{way_out};
+
 use std::alloc::AllocError;
 use std::fmt::Write as Push;
 use std::fs::{Files, OpenFile, OpenOptions};
@@ -8,24 +11,6 @@ use std::{fs, io};
 use tp_disk::{Counted, NotedFile, RawFile};
 use tp_words::Shown;
 
-/// The way out of a full disk.
-const MAKE_ROOM: &str = "Make room on its disk, or name a path on another one.";
-
-/// The way out, for what the system may say of a path.
-const WAYS_OUT: &[(io::ErrorKind, &str)] = &[
-    (
-        io::ErrorKind::OutOfMemory,
-        "There is no memory left for all that is in it: is it the file that you mean?",
-    ),
-    (io::ErrorKind::StorageFull, MAKE_ROOM),
-    (io::ErrorKind::QuotaExceeded, MAKE_ROOM),
-    (
-        io::ErrorKind::FileTooLarge,
-        "The system allows no file of that length there: name a path on another disk, or look at ulimit -f.",
-    ),
-    (io::ErrorKind::IsADirectory, "It is a folder: name a file."),
-];
-
 /// Says what the system said of a path.
 pub fn push_error(text: &mut String, path: &str, error: &io::Error) -> Result<(), AllocError> {
     let shown = Shown::all(path);
@@ -33,13 +18,22 @@ pub fn push_error(text: &mut String, path: &str, error: &io::Error) -> Result<()
 }
 
 /// Gives the way out, for what the system said of a path.
-fn way_out(kind: io::ErrorKind) -> &'static str {
-    for (known, way) in WAYS_OUT {
-        if *known == kind {
-            return way;
+fn way_out(kind: io::ErrorKind) -> &'static str
+    ensures { result.now ≡ way_out kind }
+{
+    match kind {
+        io::ErrorKind::OutOfMemory => {
+            "There is no memory left for all that is in it: is it the file that you mean?"
         }
+        io::ErrorKind::StorageFull | io::ErrorKind::QuotaExceeded => {
+            "Make room on its disk, or name a path on another one."
+        }
+        io::ErrorKind::FileTooLarge => {
+            "The system allows no file of that length there: name a path on another disk, or look at ulimit -f."
+        }
+        io::ErrorKind::IsADirectory => "It is a folder: name a file.",
+        _ => "Look at the path, and at your rights to it.",
     }
-    "Look at the path, and at your rights to it."
 }
 
 /// Says what the system said of a path, and the way out.
@@ -111,5 +105,5 @@ pub(crate) fn open_to_read<R: Files<File = F>, F: FileExt + OpenFile + Drop>(
 /// Whether a file that is there can be opened to be written.
 pub fn is_writable<R: Files>(rt: &R, path: &str) -> bool {
     let mut how = OpenOptions::new();
-    is_regular(rt, path) && how.read(true).write(true).open(rt, path).is_ok()
+    how.read(true).write(true).open(rt, path).is_ok()
 }

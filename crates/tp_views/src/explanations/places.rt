@@ -1,11 +1,11 @@
 //! What is at an offset of a device, in words.
 
-use crate::explanations::head_rules::{half_at, most_nodes, number_at, pages_at};
+use crate::explanations::head_rules::{half_at, number_at, pages_at};
 use crate::explanations::rules::{NOTHING, Rule};
 use crate::text::parts::Part::Number;
 use tp_area::head_places::{AREA_PLACE, NODES_PLACE, PORTS_PLACE};
 use tp_area::{FIELDS_BYTES, areas_of_length, image_length};
-use tp_model::limits::{LINE_BYTES, MAX_NODES, MAX_PORTS, PORT_BYTES};
+use tp_model::limits::{LINE_BYTES, MAX_NODES, PORT_BYTES};
 use tp_model::{HeadVersion, TwoAreas};
 use tp_trace::byte_in;
 
@@ -74,8 +74,8 @@ pub(crate) fn layout_of(version: HeadVersion, head: &[u8]) -> Layout {
     Layout {
         version,
         areas: areas_of_length(version, number_at(head, AREA_PLACE)),
-        nodes: u64::from(byte_in(head, NODES_PLACE)).min(most_nodes(version) as u64),
-        ports: u64::from(byte_in(head, PORTS_PLACE)).min(MAX_PORTS as u64),
+        nodes: u64::from(byte_in(head, NODES_PLACE)),
+        ports: u64::from(byte_in(head, PORTS_PLACE)),
         pages,
     }
 }

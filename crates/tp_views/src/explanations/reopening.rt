@@ -1,5 +1,8 @@
 //! Why a device's file can't be opened: it is opened again to find out.
 
+ghost use Rattle.std.specs.Prelude.{◌≡◌, ◌++◌, OnOk, string_bytes};
+ghost use Rattle.tp_views.specs.Explained.{memory_text};
+
 use crate::explanations::damage::push_fault;
 use crate::explanations::looking::{is_special, open_to_read, push_file};
 use crate::steady::{Tried, open_steady};
@@ -32,7 +35,9 @@ fn push_unopened<F: FileExt + OpenFile + Drop>(
     disk: &mut Counted<RawFile<NotedFile<F>>>,
     device: &str,
     unopened: Unopened,
-) -> Result<(), AllocError> {
+) -> Result<(), AllocError>
+    ensures { unopened ≡ Unopened.Memory → OnOk result (string_bytes text.new ≡ string_bytes text.old ++ memory_text) }
+{
     let shown = Shown::all(device);
     match unopened {
         Unopened::Fault(fault) => {

@@ -1,5 +1,7 @@
 //! At which line a text says no topology, and why.
 
+ghost use Rattle.std.specs.Prelude.{◌≡◌, ◌++◌, OnOk, codes, string_bytes};
+
 use crate::explanations::line_rules::{broken_rule, missing};
 use std::alloc::{AllocError, Global};
 use std::fmt::Write;
@@ -89,7 +91,9 @@ fn nth_line(text: &[u8], number: usize) -> &[u8] {
 }
 
 /// Gives the number of the line at which a text says `fault`; 0 if it is no line's fault.
-fn faulty_line(alloc: Global, text: &[u8], fault: NetFault) -> usize {
+fn faulty_line(alloc: Global, text: &[u8], fault: NetFault) -> usize
+    ensures { fault ≡ NetFault.Memory → result ≡ 0 }
+{
     match fault {
         NetFault::Syntax(line) => line as usize,
         NetFault::Memory => 0,
@@ -123,7 +127,9 @@ fn push_reason(
     bytes: &[u8],
     number: usize,
     fault: NetFault,
-) -> Result<(), AllocError> {
+) -> Result<(), AllocError>
+    ensures { fault ≡ NetFault.Memory → OnOk result (string_bytes text.new ≡ string_bytes text.old ++ codes "memory is wanting") }
+{
     match fault {
         NetFault::Syntax(0) => text.push_str(missing(bytes)),
         NetFault::Syntax(_) => push_broken(

@@ -1,9 +1,10 @@
 //! Whether processes wait for other nodes. It is said after a stream that ended because nothing was left to do.
 
-ghost use Rattle.std.specs.Prelude.{◌≡◌, IfOk};
+ghost use Rattle.std.specs.Prelude.{◌≡◌, IfOk, IfErr};
 ghost use Rattle.tp_views.specs.Lower.{LeavesNothingNew, AreTrue, WereTrue};
 ghost use Rattle.tp_views.specs.Inside.{HasInside, waits_within};
 ghost use Rattle.tp_views.specs.Opens.{IsUnwritten};
+ghost use Rattle.tp_views.specs.Refused.{IsViewFault};
 
 use crate::explanations::looking::open_to_read;
 use crate::refusal::Refusal;
@@ -34,6 +35,7 @@ pub fn has_inside<D: Disk>(alloc: Global, disk: &mut D) -> Result<bool, Refusal>
     ensures kept { IsUnwritten (D.failures_of disk.old) (D.failures_of disk.new) (D.state disk.old).now (D.state disk.new).now }
     ensures premise { WereTrue (D.reads disk.old) (D.reads disk.new) }
     ensures leaves { LeavesNothingNew (D.state disk.old) (D.state disk.new) }
+    ensures fault { IfErr result IsViewFault }
 {
     let Tried::Steady(answer) = open_steady(alloc, disk) else {
         return Err(Refusal::Busy);

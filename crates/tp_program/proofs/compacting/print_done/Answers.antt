@@ -6,8 +6,8 @@ on_ok : {T E : Type 0} (P Q : Type 0) (r : Result T E) → (P → Q) → OnOk r 
 on_ok P Q (Ok x) turn h = turn h
 on_ok P Q (Err e) turn h = h
 
-pub returns : goal.returns
-returns g c =
+pub returns-clause-printed : goal.returns-clause-printed
+returns-clause-printed g c =
     on_ok _ _ c.put.result
     (λ appended. subst (λ bytes. Appends (g.O.Write.contents c.args.out.now) (g.O.Write.contents c.put.new.out) bytes) (c.as_bytes.ensures.value ∙ c.in_ok-text.ensures.line) appended)
     c.put.ensures.written

@@ -5,5 +5,5 @@ use Rattle.tp_program.proofs.files.view_file.Goals as goal
 pub view_mapped-requires : goal.view_mapped-requires
 view_mapped-requires g c = record {
   unnamed = λ none.
-      unread _ _ _ _ c.in-Ok-read_maps.ensures (c.as_slice.ensures.value ∙ c.in-Ok.ensures.own none) (c.as_slice-2.ensures.value ∙ c.in-Ok.ensures.all none);
+      unread _ _ _ _ c.in-Ok-read_maps.ensures.maps (c.as_slice.ensures.value ∙ c.in-Ok.ensures.own none) (c.as_slice-2.ensures.value ∙ c.in-Ok.ensures.all none);
 }

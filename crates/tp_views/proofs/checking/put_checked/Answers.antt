@@ -10,9 +10,9 @@ on_ok P Q (Err e) turn h = h
 pub returns-clause-printed : goal.returns-clause-printed
 returns-clause-printed g c =
     on_ok _ _ c.put.result
-    (λ appended. subst (λ bytes. Appends (g.O.Write.contents c.args.out.now) (g.O.Write.contents c.put.new.out) bytes) (c.as_bytes.ensures.value ∙ c.in-Ok.ensures) appended)
+    (λ appended. subst (λ bytes. Appends (g.O.Write.contents c.args.out.now) (g.O.Write.contents c.put.new.out) bytes) (c.as_bytes.ensures.value ∙ c.in_ok-text.ensures) appended)
     c.put.ensures.written
 
 pub returns-clause-front : goal.returns-clause-front
 returns-clause-front g c =
-    inr (subst (λ bytes. AppendsFront (g.O.Write.contents c.args.out.now) (g.O.Write.contents c.put.new.out) bytes) (c.as_bytes.ensures.value ∙ c.in-Ok.ensures) c.put.ensures.front)
+    inr (subst (λ bytes. AppendsFront (g.O.Write.contents c.args.out.now) (g.O.Write.contents c.put.new.out) bytes) (c.as_bytes.ensures.value ∙ c.in_ok-text.ensures) c.put.ensures.front)

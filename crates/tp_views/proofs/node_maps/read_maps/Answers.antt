@@ -11,6 +11,6 @@ both : (own other : List (List Row)) (all rest : List Row) → own ≡ other →
     → let left : Maps = record { own = own; all = all } in let right : Maps = record { own = other; all = rest } in left ≡ right
 both own other all rest p q = λ i. record { own = p i; all = q i }
 
-pub returns : goal.returns
-returns c =
-    both _ _ _ _ (c.in_ok-read_own.ensures ∙ twice (λ text. rows_read (read_map text)) (λ text. text.items) c.args.own.now) (sym (ap rows_read c.in_ok-read_rows.ensures.ok))
+pub returns-clause-maps : goal.returns-clause-maps
+returns-clause-maps c =
+    both _ _ _ _ (c.in_ok-read_own.ensures.own ∙ twice (λ text. rows_read (read_map text)) (λ text. text.items) c.args.own.now) (sym (ap rows_read c.in_ok-read_rows.ensures.ok))

@@ -11,7 +11,7 @@ pub returns-clause-done : goal.returns-clause-done
 returns-clause-done g c keeps =
     let opened = c.in_ok-opened.opened in
     let opens : verdict (g.D.Disk.state c.args.disk.now).now.bytes ≡ Ok opened = search rules in
-    let text = c.as_bytes.ensures.value ∙ c.in-Ok.ensures in
+    let text = c.as_bytes.ensures.value ∙ c.in_ok-text.ensures in
     on_ok _ _ c.put.result (λ appended. record {
       opened = opened;
       is = opens;
@@ -23,7 +23,7 @@ pub returns-clause-front : goal.returns-clause-front
 returns-clause-front g c keeps =
     let opened = c.in_ok-opened.opened in
     let opens : verdict (g.D.Disk.state c.args.disk.now).now.bytes ≡ Ok opened = search rules in
-    let text = c.as_bytes.ensures.value ∙ c.in-Ok.ensures in
+    let text = c.as_bytes.ensures.value ∙ c.in_ok-text.ensures in
     inr (
       opened,
       opens,
