@@ -15,6 +15,11 @@ pub record Helped (text : List ℕ) (old new : List DeviceCall) (was now : Optio
   pub unopened : new ≡ old
   pub printed : status ≡ 0 → Appends was now text
 
+-- whether a run is asked for
+abbrev pub is_of_run : Asked → Bool
+is_of_run (Runs run) = true
+is_of_run _ = false
+
 -- What a command did. `format` makes its device, in a file that it makes at most once. A command that changes no device makes none, and opens none to
 -- be written.
 abbrev pub CarriedOut : History → Asked → (old new : List DeviceCall) → (was now : Option (List ℕ)) → ℕ → Type 0

@@ -6,7 +6,11 @@ pub mod Streaming
 pub mod Rights
 pub mod Backups
 pub mod Devices
+pub mod Refused
+pub mod Named
+pub mod Tries
 pub mod Media
+pub mod Numbers
 pub mod Stops
 pub mod RunFile
 pub mod CompactFile

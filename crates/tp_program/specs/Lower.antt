@@ -1,11 +1,15 @@
 -- What definitions and contracts here name of the crates below.
 pub use Rattle.std.specs.Borrow.{ftrue}
+pub use Rattle.std.specs.Duration.{as_nanos}
 pub use Rattle.std.specs.Fmt.{decimal}
 pub use Rattle.std.specs.Io.KnownBytes.{Appends}
 pub use Rattle.std.specs.IoError.{error_kind}
+pub use Rattle.std.specs.NonZero.{non_zero_usize_get}
 pub use Rattle.std.specs.Option.{option_map}
 pub use Rattle.std.specs.declared.alloc.Global.{Global}
+pub use Rattle.std.specs.declared.num.NonZeroUsize.{NonZeroUsize}
 pub use Rattle.std.specs.declared.string.String.{String}
+pub use Rattle.std.specs.declared.time.Duration.{Duration}
 pub use Rattle.tp_model.specs.Device.{areas_end, fits_device}
 pub use Rattle.tp_model.specs.Disk.{Moment}
 pub use Rattle.tp_model.specs.DiskHistory.{LeavesOnly, State}
@@ -86,16 +90,18 @@ pub use Rattle.tp_words.specs.declared.views.View.{View}
 pub use Rattle.tp_views.specs.Attempt.{PrintsTrial}
 pub use Rattle.tp_views.specs.Checked.{topology_said, wanted_area}
 pub use Rattle.tp_views.specs.EntriesTraced.{device_text, device_traced}
+pub use Rattle.tp_views.specs.Explained.{memory_text}
 pub use Rattle.tp_views.specs.Front.{AppendsFront, PrintsFront}
 pub use Rattle.tp_views.specs.Looks.{StatusTells}
 pub use Rattle.tp_views.specs.Maps.{Maps, Row, no_maps, read_map, rows_of}
 pub use Rattle.tp_views.specs.NodeMaps.{maps_seen}
 pub use Rattle.tp_views.specs.Opens.{Prints, recovered, shown}
 pub use Rattle.tp_views.specs.Placing.{place_of, range_of}
+pub use Rattle.tp_views.specs.Refused.{IsPrintFault}
 pub use Rattle.tp_views.specs.Status.{look_text}
 pub use Rattle.tp_views.specs.Traced.{Traces, node_traced}
 pub use Rattle.tp_views.specs.Views.{HasNone, LacksShown, PrintsShown, PrintsView, view_text}
 pub use Rattle.tp_views.specs.declared.refusal.Refusal.{Refusal}
-pub use Rattle.tp_views.specs.declared.refusal.Refusal.TheVariants.{DeviceFailed, Memory, ReadFailed}
+pub use Rattle.tp_views.specs.declared.refusal.Refusal.TheVariants.{DeviceFailed, Memory, ReadFailed, Topology as NoTopology}
 pub use Rattle.tp_views.specs.declared.text.status.Seen.{Seen}
 pub use Rattle.tp_views.specs.declared.trace.stops.Stops.{Stops}

@@ -1,6 +1,7 @@
 -- What `run --stream` does.
-use Rattle.std.specs.Prelude.{◌≡◌, ◌==◌, ℕ, Bool, true, List, map, Option, None, Result, Ok, Err, ◌||◌, if◌then◌else◌, is_some, min, unwrap_or}
-use Rattle.tp_program.specs.Lower.{NodeState, Network, State, LeavesNothingNew, Unopened, StaysUnstreamed, StreamedInto, OutputValue, outputs_named, GivenInput, given_input, PortFile, Ends, Ended, Ending, Halted, StreamFault, Opening, Spare, Port, Unnamed, Task, EndFault, SameFile, Twice, StreamRun}
+use Rattle.std.specs.Prelude.{◌≡◌, ◌==◌, ℕ, Bool, true, List, [], ◌∷◌, ◌++◌, codes, map, Option, Some, None, Result, Ok, Err, ◌||◌, if◌then◌else◌, is_some, min, unwrap_or}
+use Rattle.tp_stream_files.specs.declared.ends.EndFault.TheVariants as ends
+use Rattle.tp_program.specs.Lower.{decimal, memory_text, NodeState, Network, State, LeavesNothingNew, Unopened, StaysUnstreamed, StreamedInto, OutputValue, outputs_named, GivenInput, given_input, PortFile, Ends, Ended, Ending, Halted, StreamFault, Opening, Spare, Port, Unnamed, Task, EndFault, SameFile, Twice, StreamRun}
 use Rattle.tp_program.specs.declared.streaming.FilesFault.{FilesFault}
 use Rattle.tp_program.specs.declared.streaming.FilesFault.TheVariants.{End, Stop, Stream}
 
@@ -56,6 +57,20 @@ abbrev pub end_status : EndFault → ℕ
 end_status (SameFile port) = 2
 end_status (Twice port) = 2
 end_status _ = 1
+
+-- what is explained of outputs and inputs that aren't opened; `None` where that is for the file to say
+abbrev pub end_text : EndFault → Option (List ℕ)
+end_text (SameFile port) = Some (codes "  Nothing was opened." ++ 10 ∷ [])
+end_text (Twice port) = Some (codes "  Nothing was opened." ++ 10 ∷ [])
+end_text ends.Memory = Some memory_text
+end_text _ = None
+
+-- the line that says of outputs and inputs that they aren't opened; `None` if their fault's name says it
+abbrev pub end_line : EndFault → Option (List ℕ)
+end_line (SameFile port) =
+    Some (codes "tpnet: --out " ++ (decimal port ++ (codes " goes into the file of the device, an input, another port or standard error: give it one of its own" ++ 10 ∷ [])))
+end_line (Twice port) = Some (codes "tpnet: port " ++ (decimal port ++ (codes " and another one have the same end" ++ 10 ∷ [])))
+end_line _ = None
 
 -- the status of a stream that is refused or fails
 abbrev pub fault_status : StreamFault → ℕ

@@ -1,17 +1,19 @@
 //! `tpnet stop`: asks the stream that has a device to end.
 
-ghost use Rattle.std.specs.Prelude.{◌≡◌, ◌≤◌, [], ◌∷◌, ◌++◌, false, true, replicate, IfErr, OnOk, string_bytes};
-ghost use Rattle.tp_program.specs.Lower.{Appends, error_kind};
+ghost use Rattle.std.specs.Prelude.{◌≡◌, ◌≤◌, [], ◌∷◌, ◌++◌, false, true, replicate, IfErr, OnOk, Some, string_bytes};
+ghost use Rattle.tp_program.specs.Lower.{Appends, error_kind, Memory};
+ghost use Rattle.tp_program.specs.declared.asking.Unasked.TheVariants.{Device};
 ghost use Rattle.tp_program.specs.Devices.{Holds, Requests};
+ghost use Rattle.tp_program.specs.Named.{unmade_name};
 ghost use Rattle.tp_program.specs.Stops.{GotWithin, HasAsked, IsOfNobody, StopAnswered, WasHeldElsewhere, WasUnasked, request_path, stop_line};
 ghost use Rattle.tp_program.specs.Uses.{AsksAgain, HasRequested};
 
 use crate::asking_explain::explain_unasked;
 use crate::devices::{Devices, file_to_write};
 use crate::files::{disk_to_read, read_refusal};
-use crate::locks::InUse;
 use crate::program::{prints_into, refuse_output};
 use crate::request_file::RequestFile;
+use std::alloc::AllocError;
 use std::fs::{Files, OpenFile};
 use std::io::{ErrorKind, Write};
 use std::os::unix::fs::FileExt;
@@ -47,13 +49,34 @@ pub enum Unasked {
     StillRunning,
 }
 
-impl fmt::Display for Unmade {
-    fn fmt<W: fmt::Write>(&self, f: &mut fmt::Formatter<W>) -> fmt::Result {
-        f.write_str(match self {
+impl From<AllocError> for Unasked {
+    ghost from_gives = { λ _ unasked. unasked ≡ Device Memory };
+
+    fn from(_error: AllocError) -> Unasked {
+        Unasked::Device(Refusal::Memory)
+    }
+}
+
+impl Unmade {
+    ghost use Rattle.tp_program.specs.Named.{unmade_name};
+
+    /// Gives its name.
+    fn name(self) -> &'static str
+        ensures { result.now ≡ unmade_name self }
+    {
+        match self {
             Unmade::StopExists => "StopExists",
             Unmade::DeviceFailed => "DeviceFailed",
             Unmade::Memory => "Memory",
-        })
+        }
+    }
+}
+
+impl fmt::Display for Unmade {
+    ghost output = { λ unmade. Some (unmade_name unmade) };
+
+    fn fmt<W: fmt::Write>(&self, f: &mut fmt::Formatter<W>) -> fmt::Result {
+        f.write_str(self.name())
     }
 }
 
@@ -168,7 +191,7 @@ fn look_again<R: Files, S: Devices>(
             let _removed = file.clear(rt);
             true
         }
-        Err(InUse) => false,
+        Err(_in_use) => false,
     }
 }
 
@@ -194,7 +217,7 @@ fn wait_for<R: Files, S: Devices>(
                 let _gone = file.clear(rt);
                 return true;
             }
-            Err(InUse) => times += 1,
+            Err(_in_use) => times += 1,
         }
         let _made = devices.request(device, file.path());
     }
@@ -215,7 +238,7 @@ fn ask_by<R: Files<File = F>, F: FileExt + OpenFile + Drop, S: Devices>(
     ensures refused { IfErr result (λ fault. WasUnasked fault asked.now.wait (string_bytes asked.now.device) (S.calls devices.old) (S.calls devices.new)) }
 {
     let device = asked.device.as_str();
-    let Err(InUse) = devices.hold(device, 0) else {
+    let Err(_in_use) = devices.hold(device, 0) else {
         return Err(nobody_asked(rt, device, file));
     };
     if let Err(unmade) = make_request(devices, device, file, system) {
@@ -248,10 +271,8 @@ fn ask_to_stop<R: Files<File = F> + AllocGlobal, F: FileExt + OpenFile + Drop, S
     if let Err(refusal) = look_at(rt, device, system) {
         return Err(Unasked::Device(refusal));
     }
-    match RequestFile::of(rt.alloc(), device) {
-        Ok(file) => ask_by(rt, devices, asked, &file, system),
-        Err(_) => Err(Unasked::Device(Refusal::Memory)),
-    }
+    let file = RequestFile::of(rt.alloc(), device)?;
+    ask_by(rt, devices, asked, &file, system)
 }
 
 /// Says that a stream was asked or, if the command waited, that it has ended.

@@ -1,5 +1,8 @@
 //! What `--explain` says of a stream that wasn't asked to stop, or hasn't ended: which file, why, and the way out.
 
+ghost use Rattle.std.specs.Prelude.{◌≡◌, ◌++◌, OnOk, string_bytes};
+ghost use Rattle.tp_views.specs.Explained.{memory_text};
+
 use crate::asking::{Unasked, Unmade};
 use crate::opening_again::push_unopened;
 use std::alloc::AllocError;
@@ -17,7 +20,9 @@ fn push_device(
     device: &str,
     refusal: Refusal,
     system: Option<&io::Error>,
-) -> Result<(), AllocError> {
+) -> Result<(), AllocError>
+    ensures { refusal ≡ Refusal.Memory → OnOk result (string_bytes text.new ≡ string_bytes text.old ++ memory_text) }
+{
     let shown = Shown::all(device);
     match (refusal, system) {
         (Refusal::Memory, _) => write!(text, "  memory is wanting\n"),
@@ -35,7 +40,9 @@ fn push_unmade(
     device: &str,
     unmade: Unmade,
     system: Option<&io::Error>,
-) -> Result<(), AllocError> {
+) -> Result<(), AllocError>
+    ensures { unmade ≡ Unmade.Memory → OnOk result (string_bytes text.new ≡ string_bytes text.old ++ memory_text) }
+{
     let device = Shown::all(device);
     match (unmade, system) {
         (Unmade::StopExists, _) => write!(

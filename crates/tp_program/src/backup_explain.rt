@@ -1,5 +1,8 @@
 //! What `--explain` says of a backup that wasn't done: which file, why, and the way out.
 
+ghost use Rattle.std.specs.Prelude.{◌≡◌, ◌++◌, OnOk, string_bytes};
+ghost use Rattle.tp_views.specs.Explained.{memory_text};
+
 use crate::backup_files::Undone;
 use crate::opening_again::opens;
 use std::alloc::AllocError;
@@ -91,7 +94,9 @@ fn push_explanation<R: Files<File = F> + AllocGlobal, F: FileExt + OpenFile + Dr
     text: &mut String,
     backup: &Backup,
     undone: &Undone,
-) -> Result<(), AllocError> {
+) -> Result<(), AllocError>
+    ensures { undone.now ≡ Undone.Memory → OnOk result (string_bytes text.new ≡ string_bytes text.old ++ memory_text) }
+{
     match undone {
         Undone::CopyExists => push_there(rt, text, backup),
         Undone::PartExists => push_part(text, backup.copy.as_str()),

@@ -1,8 +1,10 @@
 //! `tpnet backup`, on files: how a copy gets its name.
 
-ghost use Rattle.std.specs.Prelude.{◌≡◌, IfOk, OnOk, string_bytes};
-ghost use Rattle.tp_recover.specs.Reading.{LeavesNothingNew};
+ghost use Rattle.std.specs.Prelude.{◌≡◌, IfOk, OnOk, option_copied, string_bytes};
+ghost use Rattle.tp_program.specs.Lower.{error_kind, LeavesNothingNew};
 ghost use Rattle.tp_program.specs.Backups.{PrintsCopied};
+ghost use Rattle.tp_program.specs.Named.{undone_name};
+ghost use Rattle.tp_program.specs.declared.backup_files.Undone.TheVariants.{Memory};
 ghost use Rattle.tp_program.specs.Uses.{HasBackup, IsBackedUp, IsCopyOf, IsFilled, IsLinked, part_of};
 
 use crate::backing_up::{backup_on, copied_line};
@@ -10,9 +12,9 @@ use crate::devices::Devices;
 use crate::files::file_to_read;
 use crate::folders::sync_folder;
 use crate::rights::Rights;
-use std::alloc::Global;
+use std::alloc::{AllocError, Global};
 use std::fs::{Files, Metadata, OpenFile, OpenOptions};
-use std::io::Write;
+use std::io::{ErrorKind, Write};
 use std::os::unix::fs::{FileExt, OpenOptionsExt};
 use std::{fs, io};
 use tp_disk::{Counted, Disk, NewDisk, NewFile, NotedFile};
@@ -37,6 +39,14 @@ pub enum Undone {
     Memory,
 }
 
+impl From<AllocError> for Undone {
+    ghost from_gives = { λ _ undone. undone ≡ Memory };
+
+    fn from(_error: AllocError) -> Undone {
+        Undone::Memory
+    }
+}
+
 /// The names of a copy: its own (`copy`), and the one that it has until it is whole (`part`).
 #[derive(Clone, Copy)]
 struct Names<'a> {
@@ -44,32 +54,41 @@ struct Names<'a> {
     part: &'a str,
 }
 
-/// Says the name of a refusal. Answers the status. Ignores a failed write.
-fn refuse_as<E: Write>(err: &mut E, name: &str) -> u8
-    ensures { result ≡ 1 }
+/// Gives the name by which it is told why a backup wasn't done; `None` if that was said already.
+fn name_of(undone: &Undone) -> Option<&'static str>
+    ensures { option_copied result ≡ undone_name undone.now }
 {
-    let _ = write!(err, "tpnet: {name}\n");
-    1
+    match undone {
+        Undone::CopyExists => Some("CopyExists"),
+        Undone::PartExists => Some("PartExists"),
+        Undone::CopyFailed(_) | Undone::Unprinted => Some("DeviceFailed"),
+        Undone::Uncopied(_) => None,
+        Undone::Memory => Some("Memory"),
+    }
 }
 
-/// Says why a backup wasn't done, unless that was said already. Answers the status.
+/// Says why a backup wasn't done, unless that was said already. Answers the status. Ignores a failed write.
 pub(crate) fn refuse_undone<E: Write>(err: &mut E, undone: &Undone) -> u8
     ensures { result ≡ 1 }
 {
-    match undone {
-        Undone::CopyExists => refuse_as(err, "CopyExists"),
-        Undone::PartExists => refuse_as(err, "PartExists"),
-        Undone::CopyFailed(_) | Undone::Unprinted => refuse(err, Refusal::DeviceFailed),
-        Undone::Uncopied(_) => 1,
-        Undone::Memory => refuse(err, Refusal::Memory),
+    if let Some(name) = name_of(undone) {
+        let _ = write!(err, "tpnet: {name}\n");
     }
+    1
+}
+
+/// Gives the error that says that nothing is at a path.
+fn gone() -> io::Error
+    ensures { error_kind result ≡ ErrorKind.NotFound }
+{
+    io::Error::from(ErrorKind::NotFound)
 }
 
 /// Whether something is at a path, even a link that leads nowhere.
 fn is_there<R: Files>(rt: &R, path: &str) -> Result<bool, Undone> {
     match fs::symlink_metadata(rt, path) {
         Ok(_) => Ok(true),
-        Err(error) if error.kind() == io::ErrorKind::NotFound => Ok(false),
+        Err(error) if error.kind() == ErrorKind::NotFound => Ok(false),
         Err(error) => Err(Undone::CopyFailed(error)),
     }
 }
@@ -77,8 +96,7 @@ fn is_there<R: Files>(rt: &R, path: &str) -> Result<bool, Undone> {
 /// Tests that nothing is at either name of the copy. Fails if something is there, or if `copy` is empty, which names no file.
 fn ask_names<R: Files>(rt: &R, device: &str, names: &Names<'_>) -> Result<(), Undone> {
     if names.copy.is_empty() {
-        let error = io::Error::from(io::ErrorKind::NotFound);
-        return Err(Undone::CopyFailed(error));
+        return Err(Undone::CopyFailed(gone()));
     }
     if is_there(rt, names.copy)? {
         return Err(Undone::CopyExists);
@@ -103,7 +121,7 @@ fn make_part<R: Files<File = F>, F: FileExt + OpenFile + Drop>(
     let how = how.read(true).write(true).create_new(true);
     match how.mode(rights.at_first()).open(rt, part) {
         Ok(file) => Ok(file),
-        Err(error) if error.kind() == io::ErrorKind::AlreadyExists => Err(Undone::PartExists),
+        Err(error) if error.kind() == ErrorKind::AlreadyExists => Err(Undone::PartExists),
         Err(error) => Err(Undone::CopyFailed(error)),
     }
 }
@@ -129,7 +147,7 @@ fn is_named<R: Files>(rt: &R, path: &str, numbers: Option<FileNumbers>) -> bool 
 /// Removes a name of the copy's file, if the name is still that file's.
 fn remove_name<R: Files>(rt: &R, path: &str, numbers: Option<FileNumbers>) -> io::Result<()> {
     if !is_named(rt, path, numbers) {
-        return Err(io::Error::from(io::ErrorKind::NotFound));
+        return Err(gone());
     }
     fs::remove_file(rt, path)
 }
@@ -172,10 +190,7 @@ fn fill_part<S: Devices<New = N>, N: Disk + Drop, D: Disk, E: Write>(
     let done = backup_on(alloc, source, &mut copy, err);
     let failure = devices.finish(copy);
     match done {
-        Ok(copied) => match copied_line(alloc, copied.next) {
-            Ok(text) => Ok(text),
-            Err(_) => Err(Undone::Memory),
-        },
+        Ok(copied) => Ok(copied_line(alloc, copied.next)?),
         Err(_) => Err(Undone::Uncopied(failure)),
     }
 }
@@ -194,12 +209,11 @@ fn link_copy<R: Files>(
     numbers: Option<FileNumbers>,
 ) -> Result<(), Undone> {
     if !is_named(rt, names.part, numbers) {
-        let error = io::Error::from(io::ErrorKind::NotFound);
-        return Err(Undone::CopyFailed(error));
+        return Err(Undone::CopyFailed(gone()));
     }
     match link_names(rt, names) {
         Ok(()) => Ok(()),
-        Err(error) if error.kind() == io::ErrorKind::AlreadyExists => Err(Undone::CopyExists),
+        Err(error) if error.kind() == ErrorKind::AlreadyExists => Err(Undone::CopyExists),
         Err(error) => Err(Undone::CopyFailed(error)),
     }
 }
@@ -350,9 +364,7 @@ pub(crate) fn backup_file<
     ensures uncalled { S.calls devices.new ≡ S.calls devices.old }
 {
     let (device, copy) = (backup.device.as_str(), backup.copy.as_str());
-    let Ok(part) = format!(in rt.alloc(); "{copy}.part") else {
-        return Err(Undone::Memory);
-    };
+    let part = format!(in rt.alloc(); "{copy}.part")?;
     let part = part.as_str();
     backup_as(rt, devices, device, &Names { copy, part }, out, err)
 }

@@ -1,7 +1,7 @@
 //! `tpnet compact`, over any device.
 
 ghost use Rattle.std.specs.Prelude.{◌≡◌, ◌≤◌, true, IfErr, IfOk, IsErr, Ok, OnOk, string_bytes};
-ghost use Rattle.tp_program.specs.Lower.{AreTrue, Appends, verdict, LeavesNothingNew, History, Steps};
+ghost use Rattle.tp_program.specs.Lower.{AreTrue, Appends, verdict, LeavesNothingNew, History, Steps, IsPrintFault};
 ghost use Rattle.tp_program.specs.Compacting.{CompactedAs, PrintsDone, compaction_line};
 
 use std::alloc::Global;
@@ -21,14 +21,12 @@ fn compaction_line(alloc: Global, done: Compaction) -> Result<String, Refusal>
         generation,
         room,
     } = done;
-    match format!(in alloc; "generation {generation} next {next} room {room}\n") {
-        Ok(text) => Ok(text),
-        Err(_) => Err(Refusal::Memory),
-    }
+    Ok(format!(in alloc; "generation {generation} next {next} room {room}\n")?)
 }
 
 fn print_done<O: Write>(alloc: Global, done: Compaction, out: &mut O) -> Result<(), Refusal>
-    ensures { OnOk result (Appends (O.contents out.old) (O.contents out.new) (compaction_line done)) }
+    ensures printed { OnOk result (Appends (O.contents out.old) (O.contents out.new) (compaction_line done)) }
+    ensures fault { IfErr result IsPrintFault }
 {
     let text = compaction_line(alloc, done)?;
     put(out, text.as_bytes())

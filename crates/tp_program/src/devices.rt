@@ -1,20 +1,22 @@
 //! The devices and files of commands: they are held, made, opened, read, copied and given back.
 
-ghost use Rattle.std.specs.Prelude.{◌≡◌, ℕ, refl, true, false, List, [], ◌∷◌, ◌++◌, Option, Some, None, is_ok, IfOk, IsErrAnd, OnOk, OnErr};
+ghost use Rattle.std.specs.Prelude.{◌≡◌, ℕ, refl, true, false, List, [], ◌∷◌, ◌++◌, Option, Some, None, is_ok, IfErr, IfOk, IsErrAnd, OnOk, OnErr};
 ghost use Rattle.tp_program.specs.Lower.{error_kind, option_map, begins, Medium, Copies, Formats, Steps};
 ghost use Rattle.tp_program.specs.Devices.{DeviceCall, Holds, Makes, Opens, Closes, Reads, Looks, Begins, Leaves, Links, Requests, path_held};
 ghost use Rattle.tp_program.specs.Media.{medium_at};
 ghost use Rattle.tp_program.specs.Stops.{WasHeldElsewhere, request_path};
+ghost use Rattle.tp_program.specs.Tries.{WasWaitedFor};
 
 use crate::backup_files::{Undone, begun_copy, name_copy, source_of};
 use crate::device_calls::DeviceCalls;
 use crate::files::{file_to_read, read_refusal};
 use crate::folders::sync_folder;
 use crate::in_use::{changed, is_busy};
-use crate::locks::{Held, InUse, Locks};
+use crate::locks::{Held, Locks};
 use crate::media::Media;
 use crate::request_file::make_request;
 use crate::rights::Rights;
+use crate::trying::InUse;
 use std::fs::{Files, OpenFile, OpenOptions};
 use std::io::{ErrorKind, Write};
 use std::os::unix::fs::FileExt;
@@ -62,6 +64,7 @@ pub trait Devices {
     fn hold(&mut self, path: &str, seconds: u32) -> Result<(), InUse>
         ensures noted { calls self.new ≡ calls self.old ++ Holds path.now seconds (is_ok result) ∷ [] }
         ensures got { OnOk result (held self.new ≡ Some path.now) }
+        ensures vain { IfErr result (WasWaitedFor seconds) }
         ensures unused { uses self.new ≡ uses self.old };
 
     /// Whether the path still has what it had when the device was asked for: the file that is held, or nothing. It checks anew each time.
@@ -444,7 +447,7 @@ fn made_file<R: Files<File = F>, F: OpenFile + Drop, L: Locks<F, Lock = K>, K: D
     let file = how.read(true).write(true).create_new(true).open(rt, path)?;
     match locks.take_made(path, file) {
         Ok(held) => Ok(held),
-        Err(InUse) => Err(changed()),
+        Err(_in_use) => Err(changed()),
     }
 }
 

@@ -1,12 +1,14 @@
 //! The commands on files that write no device.
 
-ghost use Rattle.std.specs.Prelude.{◌≡◌, ◌⊎◌, ◌≤◌, ◌++◌, ◌∷◌, [], IfErr, IfOk, IsSome, None, OnErr, Ok, length, map, string_bytes};
+ghost use Rattle.std.specs.Prelude.{◌≡◌, ◌⊎◌, ◌≤◌, ◌++◌, ◌∷◌, [], false, true, Err, IfErr, IfOk, IsOk, IsSome, None, OnErr, Ok, length, map, string_bytes};
 ghost use Rattle.tp_program.specs.Lower.{error_kind, Appends, start_of, read_text, node_names, topology_said, no_maps, maps_seen, recovered, shown};
 ghost use Rattle.tp_program.specs.Devices.{Reads, WasRefused};
+ghost use Rattle.tp_program.specs.Refused.{IsNetworkFault, IsReadFault};
 ghost use Rattle.tp_program.specs.Uses.{Checked, CheckedText, HasStatus, LooksAtOne, ReadsOne, Shows, Told, TracedBy, Tried, Untold, ViewedBy, image_of, images_read};
 
 use crate::devices::Devices;
 use crate::map_texts::read_texts;
+use crate::numbers::{millis_of, seconds_in};
 use crate::watching::Watch;
 use std::alloc::Global;
 use std::fs::{Files, OpenFile, OpenOptions};
@@ -34,6 +36,30 @@ pub(crate) fn read_refusal(error: &io::Error) -> Refusal
     }
 }
 
+/// Gives the bytes of a file, or why it wasn't read.
+fn read_answer(read: io::Result<Vec<u8>>) -> Result<Vec<u8>, Refusal>
+    ensures read { IfOk read (λ bytes. result ≡ Ok bytes) }
+    ensures memory { IfErr read (λ error. error_kind error ≡ ErrorKind.OutOfMemory → result ≡ Err Refusal.Memory) }
+    ensures failed { IfErr read (λ error. (error_kind error ≡ ErrorKind.OutOfMemory → ⊥) → result ≡ Err Refusal.ReadFailed) }
+{
+    match read {
+        Ok(bytes) => Ok(bytes),
+        Err(error) => Err(read_refusal(&error)),
+    }
+}
+
+/// Refuses a path whose file can't be opened without waiting. It isn't opened.
+fn must_open(can_be: bool) -> Result<(), Refusal>
+    ensures open { can_be ≡ true → IsOk result }
+    ensures special { can_be ≡ false → result ≡ Err Refusal.ReadFailed }
+{
+    if can_be {
+        Ok(())
+    } else {
+        Err(Refusal::ReadFailed)
+    }
+}
+
 /// `tpnet try`, on the image's file.
 #[inline(never)]
 pub fn try_file<R: Files + AllocGlobal, S: Devices, O: Write, E: Write>(
@@ -55,11 +81,10 @@ pub fn try_file<R: Files + AllocGlobal, S: Devices, O: Write, E: Write>(
 }
 
 /// Reads a whole file.
-pub(crate) fn read_file<R: Files + AllocGlobal>(rt: &R, path: &str) -> Result<Vec<u8>, Refusal> {
-    match fs::read(rt, path) {
-        Ok(bytes) => Ok(bytes),
-        Err(error) => Err(read_refusal(&error)),
-    }
+pub(crate) fn read_file<R: Files + AllocGlobal>(rt: &R, path: &str) -> Result<Vec<u8>, Refusal>
+    ensures { IfErr result IsReadFault }
+{
+    read_answer(fs::read(rt, path))
 }
 
 /// Reads a whole image or topology. What is no regular file isn't opened: a FIFO would be waited for.
@@ -72,14 +97,10 @@ pub(crate) fn read_source<R: Files, S: Devices>(
     ensures unread { OnErr result (S.uses devices.new ≡ S.uses devices.old) }
     ensures uncalled { S.calls devices.new ≡ S.calls devices.old }
     ensures kept { S.held devices.new ≡ S.held devices.old }
+    ensures fault { IfErr result IsReadFault }
 {
-    if !is_openable(rt, path) {
-        return Err(Refusal::ReadFailed);
-    }
-    match devices.read(path) {
-        Ok(bytes) => Ok(bytes),
-        Err(error) => Err(read_refusal(&error)),
-    }
+    must_open(is_openable(rt, path))?;
+    read_answer(devices.read(path))
 }
 
 /// The path of a node's image.
@@ -87,10 +108,7 @@ pub(crate) fn image_path(alloc: Global, folder: &str, name: &str) -> Result<Stri
     ensures path { IfOk result (λ path. string_bytes path ≡ image_of folder.now name.now) }
     ensures memory { IfErr result (λ refusal. refusal ≡ Refusal.Memory) }
 {
-    match format!(in alloc; "{folder}/{name}.img") {
-        Ok(path) => Ok(path),
-        Err(_) => Err(Refusal::Memory),
-    }
+    Ok(format!(in alloc; "{folder}/{name}.img")?)
 }
 
 /// Reads the image of a node.
@@ -103,6 +121,7 @@ fn read_image<R: Files + AllocGlobal, S: Devices>(
     ensures read { IfOk result (λ bytes. S.uses devices.new ≡ S.uses devices.old ++ Reads (image_of folder.now name.now) bytes.items ∷ []) }
     ensures uncalled { S.calls devices.new ≡ S.calls devices.old }
     ensures kept { S.held devices.new ≡ S.held devices.old }
+    ensures fault { IfErr result IsReadFault }
 {
     let path = image_path(rt.alloc(), folder, name)?;
     read_source(rt, devices, path.as_str())
@@ -119,13 +138,12 @@ fn read_images<R: Files + AllocGlobal, S: Devices>(
     ensures read { IfOk result (λ images. S.uses devices.new ≡ S.uses devices.old ++ images_read folder.now (map (λ name. name.now) names.now) (map (λ image. image.items) images.items)) }
     ensures uncalled { S.calls devices.new ≡ S.calls devices.old }
     ensures kept { S.held devices.new ≡ S.held devices.old }
+    ensures fault { IfErr result IsReadFault }
 {
     let mut images = Vec::new(rt.alloc());
     for name in names {
         let image = read_image(rt, devices, folder, name)?;
-        if images.push(image).is_err() {
-            return Err(Refusal::Memory);
-        }
+        images.push(image)?;
     }
     Ok(images)
 }
@@ -143,6 +161,7 @@ pub(crate) fn read_network<'a, R: Files + AllocGlobal, S: Devices>(
     ensures read { IfOk result (λ found. S.uses devices.new ≡ S.uses devices.old ++ images_read folder.now (node_names text.now) (map (λ image. image.items) found.1.items)) }
     ensures uncalled { S.calls devices.new ≡ S.calls devices.old }
     ensures kept { S.held devices.new ≡ S.held devices.old }
+    ensures fault { IfErr result IsNetworkFault }
 {
     let named = Topology::read_named(rt.alloc(), text)?;
     let images = read_images(rt, devices, folder, named.names.as_slice())?;
@@ -324,10 +343,10 @@ pub fn trace_device_file<
 pub(crate) fn file_to_read<R: Files<File = F>, F: OpenFile + Drop>(
     rt: &R,
     device: &str,
-) -> Result<F, Refusal> {
-    if !is_openable(rt, device) {
-        return Err(Refusal::ReadFailed);
-    }
+) -> Result<F, Refusal>
+    ensures { IfErr result (λ refusal. refusal ≡ Refusal.ReadFailed) }
+{
+    must_open(is_openable(rt, device))?;
     let mut how = OpenOptions::new();
     match how.read(true).open(rt, device) {
         Ok(file) => Ok(file),
@@ -344,7 +363,9 @@ fn disk_in<F: SystemFile + Drop>(file: F) -> io::Result<Counted<RawFile<F>>> {
 pub(crate) fn disk_to_read<R: Files<File = F>, F: FileExt + OpenFile + Drop>(
     rt: &R,
     device: &str,
-) -> Result<Counted<RawFile<NotedFile<F>>>, Refusal> {
+) -> Result<Counted<RawFile<NotedFile<F>>>, Refusal>
+    ensures { IfErr result (λ refusal. refusal ≡ Refusal.ReadFailed) }
+{
     let file = file_to_read(rt, device)?;
     match disk_in(NotedFile::new(file)) {
         Ok(disk) => Ok(disk),
@@ -402,7 +423,7 @@ fn clock_of<W: Watch>(watch: &mut W, every: Option<u32>) -> Option<u64>
     ensures { every ≡ None → result ≡ None }
 {
     match every {
-        Some(_) => Some(watch.clock()?.as_secs()),
+        Some(_) => seconds_in(watch.clock()),
         None => None,
     }
 }
@@ -425,7 +446,7 @@ fn look_file<R: AllocGlobal, S: Devices<Device = D>, D: Disk + Drop, W: Watch, O
     ensures told { IfOk result (λ seen. LooksAtOne device.now (S.uses devices.old) (S.uses devices.new) (Told json before.now (O.contents out.old) (O.contents out.new) seen)) }
     ensures refused { IfErr result (λ status. WasRefused (S.uses devices.old) (S.uses devices.new) (O.contents out.old) (O.contents out.new) status ⊎ (status ≡ 1) × LooksAtOne device.now (S.uses devices.old) (S.uses devices.new) (Untold json before.now (O.contents out.old) (O.contents out.new))) }
 {
-    let (held, at) = (watch.is_held(device), watch.now());
+    let (held, at) = (watch.is_held(device), millis_of(watch.now()));
     let clock = clock_of(watch, every);
     let mut disk = match devices.look(device) {
         Ok(disk) => disk,

@@ -15,10 +15,12 @@ mod files;
 mod folders;
 mod format_file;
 mod formatting;
+mod holding;
 mod in_use;
 mod locks;
 mod map_texts;
 mod media;
+mod numbers;
 mod opening_again;
 mod program;
 mod request_file;
@@ -30,6 +32,8 @@ mod stream_explain;
 mod stream_program;
 mod streaming;
 mod trace_files;
+mod trying;
+mod unspelt;
 mod watching;
 
 pub use asking::{Unasked, Unmade};
@@ -38,8 +42,10 @@ pub use backup_files::Undone;
 pub use compacting::compact_on;
 pub use devices::{Devices, FileDevices, Made};
 pub use formatting::format_on;
+pub use holding::{Found, found_at, hold_file, hold_made, is_held, is_kept};
 pub use in_use::refuse_in_use;
-pub use locks::{Held, InUse, Locks};
+pub use locks::{Held, Locks};
+pub use numbers::{millis_of, processors_of, seconds_in, time_of};
 pub use program::answer_over;
 pub use rights::Rights;
 pub use running::run_on;
@@ -53,4 +59,6 @@ pub use tp_words::{
     ArgFault, Asked, Backup, Command, CommandFault, CommandLine, EndsFault, JournalPart, NewDevice,
     Run, StopRequest, StreamRun, View,
 };
+pub use trying::{InUse, Tries, lock_file, lock_made};
+pub use unspelt::words_refusal;
 pub use watching::Watch;

@@ -1,13 +1,11 @@
 //! Locks of devices' files.
 
-ghost use Rattle.std.specs.Prelude.{◌≡◌, IfOk};
+ghost use Rattle.std.specs.Prelude.{◌≡◌, IfErr, IfOk};
 ghost use Rattle.tp_program.specs.Devices.{path_held};
+ghost use Rattle.tp_program.specs.Tries.{WasTriedOnce, WasWaitedFor};
 
 use crate::device_calls::DeviceCalls;
-
-/// Says that another process has a device.
-#[derive(Drop)]
-pub struct InUse;
+use crate::trying::InUse;
 
 /// The lock of a device's file, for as long as this value lives, and the path at which it was taken.
 #[derive(Drop)]
@@ -34,11 +32,13 @@ pub trait Locks<F: Drop> {
 
     /// Takes the lock of the device's file at a path. While another process has it, it tries again for `seconds` seconds; then it fails.
     fn take(&mut self, path: &str, seconds: u32) -> Result<Held<Self::Lock>, InUse>
-        ensures { IfOk result (λ held. path_held held.noted.told ≡ path.now) };
+        ensures got { IfOk result (λ held. path_held held.noted.told ≡ path.now) }
+        ensures vain { IfErr result (WasWaitedFor seconds) };
 
     /// Takes the lock of this file, which was just made at a path. It tries once, and fails if another process has taken the lock first.
     fn take_made(&mut self, path: &str, file: F) -> Result<Held<Self::Lock>, InUse>
-        ensures { IfOk result (λ held. path_held held.noted.told ≡ path.now) };
+        ensures got { IfOk result (λ held. path_held held.noted.told ≡ path.now) }
+        ensures vain { IfErr result WasTriedOnce };
 
     /// Whether the path still has what it had when this lock was taken: the very file that is locked, or nothing.
     fn is_kept(&self, lock: &Self::Lock, path: &str) -> bool;

@@ -1,6 +1,7 @@
 //! The texts of the maps of a device's nodes, from the files of a folder.
 
-ghost use Rattle.std.specs.Prelude.{◌≡◌, [], IfOk, None};
+ghost use Rattle.std.specs.Prelude.{◌≡◌, [], IfErr, IfOk, None};
+ghost use Rattle.tp_program.specs.Refused.{IsReadFault};
 
 use crate::files::read_file;
 use std::alloc::Global;
@@ -31,10 +32,10 @@ fn read_there<R: Files + AllocGlobal>(
     rt: &R,
     folder: &str,
     node: Option<usize>,
-) -> Result<Option<Vec<u8>>, Refusal> {
-    let Ok(path) = map_path(rt.alloc(), folder, node) else {
-        return Err(Refusal::Memory);
-    };
+) -> Result<Option<Vec<u8>>, Refusal>
+    ensures { IfErr result IsReadFault }
+{
+    let path = map_path(rt.alloc(), folder, node)?;
     if is_regular(rt, path.as_str()) {
         Ok(Some(read_file(rt, path.as_str())?))
     } else {
@@ -48,7 +49,9 @@ fn read_noted<R: Files + AllocGlobal>(
     folder: &str,
     node: Option<usize>,
     is_there: &mut bool,
-) -> Result<Vec<u8>, Refusal> {
+) -> Result<Vec<u8>, Refusal>
+    ensures { IfErr result IsReadFault }
+{
     match read_there(rt, folder, node)? {
         Some(text) => {
             *is_there = true;
@@ -59,15 +62,15 @@ fn read_noted<R: Files + AllocGlobal>(
 }
 
 /// Reads the maps of a folder. Fails if the folder has none.
-fn read_folder<R: Files + AllocGlobal>(rt: &R, folder: &str) -> Result<MapTexts, Refusal> {
+fn read_folder<R: Files + AllocGlobal>(rt: &R, folder: &str) -> Result<MapTexts, Refusal>
+    ensures { IfErr result IsReadFault }
+{
     let mut texts = no_texts(rt.alloc());
     let mut is_there = false;
     texts.all = read_noted(rt, folder, None, &mut is_there)?;
     for node in 0..MAX_NODES {
         let own = read_noted(rt, folder, Some(node), &mut is_there)?;
-        let Ok(()) = texts.own.push(own) else {
-            return Err(Refusal::Memory);
-        };
+        texts.own.push(own)?;
     }
     if is_there {
         Ok(texts)
@@ -83,6 +86,7 @@ pub(crate) fn read_texts<R: Files + AllocGlobal>(
 ) -> Result<MapTexts, Refusal>
     ensures own { folder.now ≡ None → IfOk result (λ texts. texts.own.items ≡ []) }
     ensures all { folder.now ≡ None → IfOk result (λ texts. texts.all.items ≡ []) }
+    ensures fault { IfErr result IsReadFault }
 {
     match folder {
         Some(folder) => read_folder(rt, folder.as_str()),

@@ -1,8 +1,8 @@
 //! What the program does for the words of its command line.
 
-ghost use Rattle.std.specs.Prelude.{◌≡◌, ◌≤◌, ◌++◌, codes, is_ok, true, OnOk};
+ghost use Rattle.std.specs.Prelude.{◌≡◌, ◌≤◌, ◌++◌, codes, false, is_ok, true, OnOk};
 ghost use Rattle.tp_program.specs.Lower.{History, IsInRange, IsCommandInRange, has_word};
-ghost use Rattle.tp_program.specs.Answers.{Answered, AnsweredAs, AnsweredHeld, CarriedOut, CommandDone, CommandUsed, HoldsWritten, UsedFor, asking_for, most_status};
+ghost use Rattle.tp_program.specs.Answers.{Answered, AnsweredAs, AnsweredHeld, CarriedOut, CommandDone, CommandUsed, HoldsWritten, UsedFor, asking_for, is_of_run, most_status};
 
 use crate::asking::answer_stop;
 use crate::backup_program::answer_backup;
@@ -13,10 +13,10 @@ use crate::files::{
 };
 use crate::format_file::format_file;
 use crate::in_use::{explain_changed, is_busy, refuse_in_use};
-use crate::locks::InUse;
 use crate::run_file::run_file;
 use crate::stream_program::hold_and_stream;
 use crate::trace_files::trace_file;
+use crate::trying::InUse;
 use crate::watching::Watch;
 use std::fs::{Files, OpenFile};
 use std::io;
@@ -140,7 +140,9 @@ fn prints_into_input<R: Files + StandardStreams>(rt: &R, asked: &Asked) -> bool 
 }
 
 /// Whether what a run says on standard error may overwrite what it prints.
-fn is_run_said_over<R: StandardStreams>(rt: &R, asked: &Asked) -> bool {
+fn is_run_said_over<R: StandardStreams>(rt: &R, asked: &Asked) -> bool
+    ensures { is_of_run asked.now ≡ false → result ≡ false }
+{
     match asked {
         Asked::Run(_) => is_output_said_over(rt),
         _ => false,
@@ -274,7 +276,7 @@ fn answer_asked<
 {
     match hold_written(devices, asked) {
         Ok(()) => answer_held(rt, devices, watch, asked, more, out, err),
-        Err(InUse) => refuse_in_use(more.of_refusals, err),
+        Err(_in_use) => refuse_in_use(more.of_refusals, err),
     }
 }
 

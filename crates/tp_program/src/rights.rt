@@ -88,9 +88,17 @@ impl Rights {
         }
     }
 
+    /// Gives the rights that a copy whose file is of this group lacks; `None` if it has them already.
+    fn lacking(self, group: u32, kept: &Metadata) -> Option<u32>
+        ensures given { bit_and (metadata_mode kept.now) 0o777 ≡ rights_in self.group group self.bits → result ≡ None }
+        ensures lacked { (bit_and (metadata_mode kept.now) 0o777 ≡ rights_in self.group group self.bits → ⊥) → result ≡ Some (rights_in self.group group self.bits) }
+    {
+        lacked(self.within(group), kept.permissions().mode())
+    }
+
     /// Gives the copy's file its rights, unless it has them already.
     pub(crate) fn give<F: OpenFile>(self, file: &F, kept: &Metadata) -> io::Result<()> {
-        match lacked(self.within(kept.gid()), kept.permissions().mode()) {
+        match self.lacking(kept.gid(), kept) {
             Some(bits) => file.set_permissions(Permissions::from_mode(bits)),
             None => Ok(()),
         }

@@ -1,7 +1,8 @@
 //! `tpnet run`, on a device's file.
 
-ghost use Rattle.std.specs.Prelude.{◌≡◌, ◌≤◌, [], None, Some, IfOk, string_bytes};
+ghost use Rattle.std.specs.Prelude.{◌≡◌, ◌≤◌, [], None, Some, IfErr, IfOk, string_bytes};
 ghost use Rattle.tp_program.specs.Lower.{History, IsRun};
+ghost use Rattle.tp_program.specs.Refused.{IsReadFault};
 ghost use Rattle.tp_program.specs.RunFile.{RanFile, RanWith};
 
 use crate::devices::{Devices, refuse_opening, refuse_special};
@@ -18,7 +19,8 @@ use tp_words::Run;
 
 /// Reads the input of a run. It is empty if no file is named.
 fn read_input<R: Files + AllocGlobal>(rt: &R, run: &Run) -> Result<Vec<u8>, Refusal>
-    ensures { run.now.input ≡ None → IfOk result (λ input. input.items ≡ []) }
+    ensures unnamed { run.now.input ≡ None → IfOk result (λ input. input.items ≡ []) }
+    ensures fault { IfErr result IsReadFault }
 {
     match &run.input {
         Some(path) => read_file(rt, path.as_str()),

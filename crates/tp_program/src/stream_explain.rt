@@ -1,5 +1,9 @@
 //! What `--explain` says of a stream that was refused: which output or input, why, and the way out.
 
+ghost use Rattle.std.specs.Prelude.{◌≡◌, ◌++◌, IfSome, OnOk, string_bytes};
+ghost use Rattle.tp_views.specs.Explained.{memory_text};
+ghost use Rattle.tp_program.specs.Streaming.{end_text};
+
 use crate::opening_again::push_unopened;
 use crate::streaming::FilesFault;
 use std::alloc::AllocError;
@@ -89,7 +93,6 @@ fn push_sink<R: Files<File = F>, F: FileExt + OpenFile + Drop>(
         "  port {port}, {shown}: it can't be opened, made or synced\n"
     )?;
     let error = match FileSink::open(rt, path) {
-        Ok(_) if is_special(rt, path) => return push_standard(text, path, port, false),
         Ok(_) => return write!(text, "  It can be now: give the same command again.\n"),
         Err(error) => error,
     };
@@ -144,12 +147,14 @@ fn push_end_fault<R: Files<File = F>, F: FileExt + OpenFile + Drop>(
     text: &mut String,
     asked: &StreamRun,
     fault: EndFault,
-) -> Result<(), AllocError> {
+) -> Result<(), AllocError>
+    ensures { IfSome (end_text fault) (λ said. OnOk result (string_bytes text.new ≡ string_bytes text.old ++ said)) }
+{
     match fault {
         EndFault::ReadFailed(port) => push_source(rt, text, &asked.ends.ins, port),
         EndFault::DeviceFailed(port) => push_sink(rt, text, &asked.ends.outs, port),
         EndFault::Memory => write!(text, "  memory is wanting\n"),
-        _ => write!(text, "  Nothing was opened.\n"),
+        EndFault::SameFile(_) | EndFault::Twice(_) => write!(text, "  Nothing was opened.\n"),
     }
 }
 
@@ -246,7 +251,9 @@ fn push_stream_fault<R: Files<File = F> + AllocGlobal, F: FileExt + OpenFile + D
     text: &mut String,
     asked: &StreamRun,
     fault: StreamFault,
-) -> Result<(), AllocError> {
+) -> Result<(), AllocError>
+    ensures { fault ≡ StreamFault.Memory → OnOk result (string_bytes text.new ≡ string_bytes text.old ++ memory_text) }
+{
     let device = asked.device.as_str();
     let shown = Shown::all(device);
     match fault {

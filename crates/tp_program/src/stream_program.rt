@@ -7,7 +7,6 @@ ghost use Rattle.tp_program.specs.StreamFile.{StreamedFile};
 
 use crate::devices::{Devices, opening_refusal, refuse_special};
 use crate::in_use::{explain_changed, is_busy, refuse_in_use};
-use crate::locks::InUse;
 use crate::stream_explain::explain_stream;
 use crate::streaming::{FilesFault, Streamed, stream_on};
 use std::fs::{Files, OpenFile};
@@ -195,6 +194,6 @@ pub(crate) fn hold_and_stream<
 {
     match devices.hold(asked.device.as_str(), asked.wait_lock) {
         Ok(()) => stream_and_explain(rt, devices, asked, explains, feed, out, err, onlooker),
-        Err(InUse) => refuse_in_use(explains, err),
+        Err(_in_use) => refuse_in_use(explains, err),
     }
 }

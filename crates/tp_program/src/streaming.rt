@@ -2,16 +2,17 @@
 
 ghost use Rattle.std.specs.Prelude.{◌≡◌, ◌≤◌, true, Err, IfErr, IfOk, IsErr, OnOk, map, string_bytes};
 ghost use Rattle.tp_program.specs.Lower.{AreTrue, Began, verdict, MAX_STEPS, LeavesNothingNew, Unopened, History, HaveOwnPaths, IsAsked, StaysUnstreamed, StreamedInto, IsStreamRun, given_input, inputs_named, named_input, outputs_named, path_from, Steps};
-ghost use Rattle.tp_program.specs.Streaming.{IsOfEnds, IsUnopened, FindsNothingNew, OnOpened, StreamedOn, end_status, ending_status, fault_status, seconds_of, shown_on, spread_over, stream_status, task_of};
+ghost use Rattle.tp_program.specs.Streaming.{IsOfEnds, IsUnopened, FindsNothingNew, OnOpened, StreamedOn, end_line, end_status, ending_status, fault_status, seconds_of, shown_on, spread_over, stream_status, task_of};
 
+use crate::numbers::processors_of;
 use crate::request_file::RequestFile;
 use crate::stop_file::{StopFault, StopFile, first_fault, places_fault, report_stop};
 use std::fs::{Files, OpenFile};
 use std::io::Write;
 use std::os::unix::fs::FileExt;
 use std::sync::Wait;
-use std::thread;
 use std::thread::Threads;
+use std::{fmt, thread};
 use tp_disk::Disk;
 use tp_stream::{Ended, Ending, Sink, Source, StreamFault, Streams, Taker, Task, stream};
 use tp_stream_files::{
@@ -94,14 +95,6 @@ fn spread_over(task: Task, processors: usize) -> Task
     Task { workers, ..task }
 }
 
-/// How many processors there are; 1 if that isn't known.
-fn processors<R: Threads>(rt: &R) -> usize {
-    match thread::available_parallelism(rt) {
-        Ok(count) => count.get(),
-        Err(_) => 1,
-    }
-}
-
 /// After how many seconds the stream tells again how far it has come.
 fn seconds_of(asked: &StreamRun) -> u32
     ensures { result ≡ seconds_of asked.now }
@@ -112,31 +105,47 @@ fn seconds_of(asked: &StreamRun) -> u32
     }
 }
 
-/// Says why a port's output or input isn't opened. Answers the status.
-fn report_end<E: Write>(err: &mut E, fault: EndFault) -> u8
+/// The line that says why a port's output or input isn't opened.
+#[derive(Clone, Copy)]
+struct EndLine(EndFault);
+
+impl fmt::Display for EndLine {
+    ghost output = { λ line. end_line line.0 };
+
+    fn fmt<W: fmt::Write>(&self, f: &mut fmt::Formatter<W>) -> fmt::Result {
+        match self.0 {
+            EndFault::SameFile(port) => write!(
+                f,
+                "tpnet: --out {port} goes into the file of the device, an input, another port or standard error: give it one of its own\n"
+            ),
+            EndFault::Twice(port) => write!(
+                f,
+                "tpnet: port {port} and another one have the same end\n"
+            ),
+            fault => write!(f, "tpnet: {fault}\n"),
+        }
+    }
+}
+
+/// Gives the status of a stream whose outputs and inputs can't be opened.
+fn end_status(fault: EndFault) -> u8
     ensures value { result ≡ end_status fault }
     ensures few { result ≤ 2 }
 {
     match fault {
-        EndFault::SameFile(port) => {
-            let _ = write!(
-                err,
-                "tpnet: --out {port} goes into the file of the device, an input, another port or standard error: give it one of its own\n"
-            );
-            2
-        }
-        EndFault::Twice(port) => {
-            let _ = write!(
-                err,
-                "tpnet: port {port} and another one have the same end\n"
-            );
-            2
-        }
-        EndFault::ReadFailed(_) | EndFault::DeviceFailed(_) | EndFault::Memory => {
-            let _ = write!(err, "tpnet: {fault}\n");
-            1
-        }
+        EndFault::SameFile(_) | EndFault::Twice(_) => 2,
+        EndFault::ReadFailed(_) | EndFault::DeviceFailed(_) | EndFault::Memory => 1,
     }
+}
+
+/// Says why a port's output or input isn't opened. Answers the status. Ignores a failed write.
+fn report_end<E: Write>(err: &mut E, fault: EndFault) -> u8
+    ensures value { result ≡ end_status fault }
+    ensures few { result ≤ 2 }
+{
+    let line = EndLine(fault);
+    let _ = write!(err, "{line}");
+    end_status(fault)
 }
 
 /// Says why a stream was refused. Answers the status.
@@ -240,7 +249,7 @@ fn stream_opened<
     ensures why { IfOk result.1 (λ ended. IsAsked (task_of asked.now) ended.why) }
 {
     let shown = shown_on(task_of(asked), onlooker.is_terminal());
-    let task = spread_over(shown, processors(rt));
+    let task = spread_over(shown, processors_of(thread::available_parallelism(rt)));
     let standard_out = asked.ends.standard_out();
     let standard_in = asked.ends.standard_in();
     let seconds = seconds_of(asked);

@@ -6,8 +6,8 @@ use std::alloc::Global;
 use std::fs::{Files, OpenOptions};
 use std::sync::atomic::AtomicU64;
 use std::{fs, io};
-use tp_program::{Held, InUse, Locks};
-use tp_stream_files::{FileNumbers, numbers_in};
+use tp_program::{Held, InUse, Locks, Tries, lock_file, lock_made};
+use tp_stream_files::{FileNumbers, Noted, Times, numbers_in};
 
 /// How often a command asks in vain for a device that another process has, before that lets it go; and the file that the process removes after each
 /// request up to one, or makes, if a `+` is before it. With a `/` after it, it is a folder that is made.
@@ -92,6 +92,37 @@ fn change<R: Files>(rt: &R, file: &str) -> io::Result<()> {
     }
 }
 
+/// Locks, which another process has at each try, or has at none. Nobody really waits for them.
+#[derive(Drop)]
+struct Vain {
+    is_taken: bool,
+    answers: Noted,
+    pauses: Times,
+}
+
+impl Vain {
+    /// No lock was tried yet.
+    fn new(is_taken: bool) -> Vain {
+        Vain {
+            is_taken,
+            answers: Noted::new(),
+            pauses: Times::new(),
+        }
+    }
+}
+
+impl Tries<()> for Vain {
+    ghost answers = { λ vain. vain.answers.told };
+
+    ghost pauses = { λ vain. vain.pauses.told };
+
+    fn is_taken(&mut self, _file: &(), pause: Option<u64>) -> bool {
+        self.answers = self.answers.answered(self.is_taken);
+        self.pauses = self.pauses.answered(pause);
+        self.is_taken
+    }
+}
+
 /// The file that was at a device's path as it was asked for, or was made there.
 #[derive(Drop)]
 pub(crate) struct Stood {
@@ -110,26 +141,29 @@ fn standing<R: Files>(rt: &R, path: &str) -> Stood {
 impl<'a, R: Files, F: Drop> Locks<F> for Other<'a, R> {
     type Lock = Stood;
 
-    fn take(&mut self, path: &str, _seconds: u32) -> Result<Held<Stood>, InUse> {
+    fn take(&mut self, path: &str, seconds: u32) -> Result<Held<Stood>, InUse> {
         let stood = standing(self.rt, path);
         if self.takes > 0 {
             self.takes = self.takes.saturating_sub(1);
             let _done = change(self.rt, self.file);
         }
-        if self.vain == 0 {
-            return Ok(Held::new(path, stood));
-        }
+        let is_vain = self.vain > 0;
         self.vain = self.vain.saturating_sub(1);
-        Err(InUse)
+        match lock_file(&mut Vain::new(is_vain), &(), seconds) {
+            Ok(()) => Ok(Held::new(path, stood)),
+            Err(in_use) => Err(in_use),
+        }
     }
 
     fn take_made(&mut self, path: &str, _file: F) -> Result<Held<Stood>, InUse> {
         let made = standing(self.rt, path);
-        if self.rival.locks {
-            return Err(InUse);
+        match lock_made(&mut Vain::new(self.rival.locks), &()) {
+            Ok(()) => {
+                self.rival.come(self.rt, path, &self.asked);
+                Ok(Held::new(path, made))
+            }
+            Err(in_use) => Err(in_use),
         }
-        self.rival.come(self.rt, path, &self.asked);
-        Ok(Held::new(path, made))
     }
 
     fn is_kept(&self, lock: &Stood, path: &str) -> bool {

@@ -67,12 +67,12 @@ impl<'a, R: Files> Watch for Watcher<'a, R> {
         self.watched.is_held
     }
 
-    fn now(&mut self) -> u64 {
-        self.now
+    fn now(&mut self) -> io::Result<Duration> {
+        Ok(Duration::from_millis(self.now))
     }
 
-    fn clock(&mut self) -> Option<Duration> {
-        Some(Duration::from_millis(START.saturating_mul(1000).saturating_add(self.now)))
+    fn clock(&mut self) -> io::Result<Duration> {
+        Ok(Duration::from_millis(START.saturating_mul(1000).saturating_add(self.now)))
     }
 
     fn pause(&mut self, seconds: u32) -> bool {

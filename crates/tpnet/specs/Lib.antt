@@ -1,2 +1,1 @@
 pub mod Lower
-pub mod Tries

@@ -1,62 +1,81 @@
-//! The lock of a file, which is tried.
+//! The locks of files, which are tried.
 
-ghost use Rattle.std.specs.Prelude.{◌≡◌, ℕ, Bool, List, [], ◌∷◌, ◌++◌, Option};
+ghost use Rattle.std.specs.Prelude.{◌≡◌, []};
 
 use std::fs::{File, TryLockError};
 use std::thread::sleep;
 use std::time::{Clock, Duration};
+use tp_program::Tries;
 use tp_stream_files::{Noted, Times};
 
-/// A lock that can be tried.
-pub(crate) trait TriedLock {
-    /// Whether another process had it at each try; the first try comes first.
-    ghost answers: { Self → List Bool };
-
-    /// How many milliseconds were waited before each try; `None` if it came at once.
-    ghost pauses: { Self → List (Option ℕ) };
-
-    /// Waits for that many milliseconds, or not at all, and then tries to take the lock. Whether another process has it.
-    fn is_taken(&mut self, pause: Option<u64>) -> bool
-        ensures answer { answers self.new ≡ answers self.old ++ result ∷ [] }
-        ensures paused { pauses self.new ≡ pauses self.old ++ pause ∷ [] };
+/// Which lock of a file is taken.
+#[derive(Clone, Copy)]
+enum Kind {
+    /// That of a process that writes it.
+    Own,
+    /// One that several processes may have, if none writes it.
+    Shared,
 }
 
-/// The lock of an open file. Any answer of the system but "another process has it" says that no other process has it.
+/// Tries the locks of open files. Any answer of the system but "another process has it" says that no other process has it.
 ///
-/// Its method makes the calls that it notes. That is known by reading alone.
+/// Its method makes the calls that it notes. That is known by reading, and by tests.
 #[derive(Drop)]
-pub(crate) struct FileLock<'a, R> {
+pub(crate) struct FileTries<'a, R> {
     rt: &'a R,
-    file: &'a File,
+    kind: Kind,
     answers: Noted,
     pauses: Times,
 }
 
-impl<'a, R> FileLock<'a, R> {
-    /// It wasn't tried yet.
-    pub(crate) fn new(rt: &'a R, file: &'a File) -> FileLock<'a, R>
+impl<'a, R> FileTries<'a, R> {
+    /// No lock was tried yet.
+    fn of(rt: &'a R, kind: Kind) -> FileTries<'a, R>
+        ensures kind { result.kind ≡ kind }
         ensures answers { result.answers.told ≡ [] }
         ensures pauses { result.pauses.told ≡ [] }
     {
-        FileLock {
+        FileTries {
             rt,
-            file,
+            kind,
             answers: Noted::new(),
             pauses: Times::new(),
         }
     }
+
+    /// Tries the locks of files that are written.
+    pub(crate) fn new(rt: &'a R) -> FileTries<'a, R>
+        ensures { result.kind ≡ Kind.Own }
+    {
+        FileTries::of(rt, Kind::Own)
+    }
+
+    /// Tries locks that several processes may have, if none writes the file.
+    pub(crate) fn shared(rt: &'a R) -> FileTries<'a, R>
+        ensures { result.kind ≡ Kind.Shared }
+    {
+        FileTries::of(rt, Kind::Shared)
+    }
 }
 
-impl<'a, R: Clock> TriedLock for FileLock<'a, R> {
-    ghost answers = { λ lock. lock.answers.told };
+/// Tries to take a lock of a file.
+fn try_lock(file: &File, kind: Kind) -> Result<(), TryLockError> {
+    match kind {
+        Kind::Own => file.try_lock(),
+        Kind::Shared => file.try_lock_shared(),
+    }
+}
 
-    ghost pauses = { λ lock. lock.pauses.told };
+impl<'a, R: Clock> Tries<File> for FileTries<'a, R> {
+    ghost answers = { λ tries. tries.answers.told };
 
-    fn is_taken(&mut self, pause: Option<u64>) -> bool {
+    ghost pauses = { λ tries. tries.pauses.told };
+
+    fn is_taken(&mut self, file: &File, pause: Option<u64>) -> bool {
         if let Some(millis) = pause {
             sleep(self.rt, Duration::from_millis(millis));
         }
-        let is_taken = matches!(self.file.try_lock(), Err(TryLockError::WouldBlock));
+        let is_taken = matches!(try_lock(file, self.kind), Err(TryLockError::WouldBlock));
         self.answers = self.answers.answered(is_taken);
         self.pauses = self.pauses.answered(pause);
         is_taken

@@ -1,9 +1,10 @@
 //! Who looks at standard error, for lines by time.
 
-ghost use Rattle.std.specs.Prelude.{◌≡◌, [], false, None};
+ghost use Rattle.std.specs.Prelude.{◌≡◌, []};
 
 use crate::backlog::Backlog;
 use std::time::Clock;
+use tp_program::time_of;
 use tp_stream_files::{Onlooker, Times};
 
 /// Has the system's clock, and was told whether standard error and standard output are terminals. While what was said isn't written it has no time: a
@@ -38,21 +39,6 @@ impl<'a, R> Looker<'a, R> {
     }
 }
 
-/// How many milliseconds the system's clock has gone. One that can't be read is still.
-fn millis<R: Clock>(rt: &R) -> u64 {
-    match rt.monotonic() {
-        Ok(time) => u64::try_from(time.as_millis()).unwrap_or(0),
-        Err(_) => 0,
-    }
-}
-
-/// The time that lines go by: none while what was said isn't written.
-fn time_of<R: Clock>(rt: &R, is_written: bool) -> Option<u64>
-    ensures { is_written ≡ false → result ≡ None }
-{
-    if is_written { Some(millis(rt)) } else { None }
-}
-
 impl<'a, R: Clock> Onlooker for Looker<'a, R> {
     ghost times = { λ looker. looker.times.told };
 
@@ -61,7 +47,7 @@ impl<'a, R: Clock> Onlooker for Looker<'a, R> {
     ghost output_terminal = { λ looker. looker.is_output_terminal };
 
     fn now(&mut self) -> Option<u64> {
-        let now = time_of(self.rt, self.backlog.is_empty());
+        let now = time_of(self.rt.monotonic(), self.backlog.is_empty());
         self.times = self.times.answered(now);
         now
     }

@@ -10,6 +10,8 @@ mod looking;
 mod printing;
 mod stand_ins;
 mod system;
+#[cfg(test)]
+mod tests;
 mod waiting;
 mod watching;
 
@@ -24,7 +26,7 @@ use std::io::{IsTerminal, Write};
 use std::process::ExitCode;
 use std::rt::Env;
 use std::{env, io};
-use tp_program::{FileDevices, answer_over};
+use tp_program::{FileDevices, answer_over, words_refusal};
 use waiting::Patient;
 use watching::Watcher;
 
@@ -35,13 +37,7 @@ fn words_of<R: Env + AllocGlobal>(rt: &R) -> io::Result<Vec<String>> {
 
 /// Says why the words can't be taken.
 fn refuse_words<E: Write>(err: &mut E, error: &io::Error) -> ExitCode {
-    let _ = match error.kind() {
-        io::ErrorKind::OutOfMemory => write!(err, "tpnet: Memory\n"),
-        _ => write!(
-            err,
-            "tpnet: a word isn't UTF-8; rename the file, or go to its folder\n"
-        ),
-    };
+    let _ = err.write_all(words_refusal(error).as_bytes());
     ExitCode::from(2)
 }
 

@@ -1,9 +1,11 @@
-//! Who holds a device, for `tpnet status`.
+//! Who holds a device, and what time it is, for `tpnet status`.
 
-use std::fs::{File, Files, OpenOptions, TryLockError};
+use crate::file_lock::FileTries;
+use std::fs::{File, Files};
+use std::io;
 use std::thread::sleep;
 use std::time::{Clock, Duration};
-use tp_program::{Watch, is_openable};
+use tp_program::{Watch, is_held};
 
 /// Looks at a device's lock by taking a shared one, which it gives back at once, and goes by the system's clock.
 #[derive(Drop)]
@@ -19,25 +21,15 @@ impl<'a, R> Watcher<'a, R> {
 
 impl<'a, R: Files<File = File> + Clock> Watch for Watcher<'a, R> {
     fn is_held(&mut self, device: &str) -> bool {
-        if !is_openable(self.rt, device) {
-            return false;
-        }
-        let mut how = OpenOptions::new();
-        match how.read(true).open(self.rt, device) {
-            Ok(file) => matches!(file.try_lock_shared(), Err(TryLockError::WouldBlock)),
-            Err(_) => false,
-        }
+        is_held(self.rt, &mut FileTries::shared(self.rt), device)
     }
 
-    fn now(&mut self) -> u64 {
-        match self.rt.monotonic() {
-            Ok(time) => u64::try_from(time.as_millis()).unwrap_or(0),
-            Err(_) => 0,
-        }
+    fn now(&mut self) -> io::Result<Duration> {
+        self.rt.monotonic()
     }
 
-    fn clock(&mut self) -> Option<Duration> {
-        self.rt.since_1970().ok()
+    fn clock(&mut self) -> io::Result<Duration> {
+        self.rt.since_1970()
     }
 
     fn pause(&mut self, seconds: u32) -> bool {

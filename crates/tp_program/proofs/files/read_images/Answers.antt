@@ -1,4 +1,4 @@
-use Rattle.std.proofs.Common.{◌∙◌, ◌∷◌, ◌++◌, [], List, ℕ, Bool, Vec, Global, Bor, ap, cond, not, rules}
+use Rattle.std.proofs.Common.{◌≡◌, ◌∷◌, ◌++◌, [], List, ℕ, Vec, Global, Bor, rules}
 use Rattle.tp_program.proofs.ImagesRead.{read_more}
 use Rattle.tp_program.proofs.files.read_images.Goals as goal
 
@@ -6,7 +6,7 @@ pub loop-name-preserved : goal.loop-name-preserved
 loop-name-preserved g c =
     let images = c.loop-name.images.items in
     let image = c.in_ok-image.image in
-    let pushed = c.push.ensures.items ∙ ap (λ (done : Bool). cond done (images ++ image ∷ []) images) (c.is_err.ensures.negation ∙ ap not c.if-is_err.false) in
+    let pushed : c.push.new.self.items ≡ images ++ image ∷ [] = search rules in
     record {
       all = search rules;
       read = read_more (λ (name : Bor (List ℕ)). name.now) (λ (image : Vec ℕ Global). image.items) c.args.folder.now c.args.names.now images c.push.new.self.items
