@@ -75,6 +75,7 @@ tpnet journal device --to 0 --from 1
 tpnet journal device --last 0
 tpnet journal device --last 01
 tpnet journal device --to 18446744073709551616
+tpnet journal device --from +1
 tpnet journal device --node a
 tpnet journal device --node -1 2>err
 tpnet journal device --node 1 --node 2 2>err

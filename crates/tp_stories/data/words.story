@@ -160,6 +160,7 @@ tpnet show device --stream
 # A dash is a standard stream as an end alone; as a stop file it is a name.
 tpnet run device --stream --turns 0 --out 0=- --stop-file -
 tpnet compact device --wait-lock=-1
+tpnet run device --turns 4 --port 01
 tpnet run /dev/null --turns=4
 tpnet show /dev/null
 symlink /dev/null null_device
