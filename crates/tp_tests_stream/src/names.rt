@@ -1,9 +1,9 @@
-//! By which words the faults of a compaction and of a stream are printed.
+//! By which words the faults of a compaction, a run and a stream are printed.
 
 use std::alloc::Global;
-use std::fmt::{Display, Write};
+use std::fmt::{Debug, Display, Write};
 use tp_recover::Unopened;
-use tp_run::CompactFault;
+use tp_run::{CompactFault, RunFault};
 use tp_stream::StreamFault;
 
 /// How each fault of a compaction is printed; that of a device which isn't opened by the opening's name.
@@ -13,6 +13,20 @@ const COMPACTIONS: &[(CompactFault, &str)] = &[
     (CompactFault::DeviceFailed, "DeviceFailed"),
     (CompactFault::NotWhole, "NotWhole"),
     (CompactFault::Memory, "Memory"),
+];
+
+/// How each fault of a run is printed; that of a device which isn't opened by the opening's name.
+const RUNS: &[(RunFault, &str)] = &[
+    (RunFault::Opening(Unopened::ReadFailed), "ReadFailed"),
+    (RunFault::Spare, "Spare"),
+    (RunFault::Port, "Port"),
+    (RunFault::OfferRefused, "JournalFull"),
+    (RunFault::FlushFailed, "DeviceFailed"),
+    (RunFault::OutputFailed, "DeviceFailed"),
+    (RunFault::ConfirmRefused, "JournalFull"),
+    (RunFault::LastFlushFailed, "DeviceFailed"),
+    (RunFault::Unaccounted, "Unaccounted"),
+    (RunFault::Memory, "Memory"),
 ];
 
 /// How each fault of a stream is printed, with its port and its numbers.
@@ -69,15 +83,26 @@ const STREAMS: &[(StreamFault, &str)] = &[
     (StreamFault::Memory, "Memory"),
 ];
 
-/// Whether a fault is printed so.
-fn is_printed<F: Display>(alloc: Global, fault: &F, name: &str) -> bool {
-    let mut text = String::new(alloc);
-    write!(text, "{fault}").is_ok() && text.as_str() == name
+/// Whether a fault is printed so, and by `Debug`, too.
+fn is_printed<F: Debug + Display>(alloc: Global, fault: &F, name: &str) -> bool {
+    let (mut shown, mut noted) = (String::new(alloc), String::new(alloc));
+    write!(shown, "{fault}").is_ok()
+        && write!(noted, "{fault:?}").is_ok()
+        && shown.as_str() == name
+        && noted.as_str() == name
 }
 
 #[test]
 fn faults_of_a_compaction_are_printed_by_their_names(rt: HostRuntime) {
     for (fault, name) in COMPACTIONS {
+        let printed = is_printed(rt.alloc(), fault, name);
+        assert!(rt; printed, "{name}");
+    }
+}
+
+#[test]
+fn faults_of_a_run_are_printed_by_their_names(rt: HostRuntime) {
+    for (fault, name) in RUNS {
         let printed = is_printed(rt.alloc(), fault, name);
         assert!(rt; printed, "{name}");
     }

@@ -14,7 +14,6 @@ use std::test::Fail;
 use std::thread::Threads;
 use tp_disk::{Disk, MemDisk, PlannedFault};
 use tp_flush::Flusher;
-use tp_recover::Unopened;
 use tp_run::{Job, Outlet, OutletFault, RunFault};
 use tp_shared::Naming;
 
@@ -215,29 +214,6 @@ impl<D: Disk> Outlet<D> for Slow {
 
 /// A run that hands in three bytes, and prints them.
 const ECHOES: Job = Job { turns: 64, ..FOUR };
-
-/// How each fault is printed; that of a device which isn't opened by the opening's name.
-const NAMES: &[(RunFault, &str)] = &[
-    (RunFault::Opening(Unopened::ReadFailed), "ReadFailed"),
-    (RunFault::Spare, "Spare"),
-    (RunFault::Port, "Port"),
-    (RunFault::OfferRefused, "JournalFull"),
-    (RunFault::FlushFailed, "DeviceFailed"),
-    (RunFault::OutputFailed, "DeviceFailed"),
-    (RunFault::ConfirmRefused, "JournalFull"),
-    (RunFault::LastFlushFailed, "DeviceFailed"),
-    (RunFault::Unaccounted, "Unaccounted"),
-    (RunFault::Memory, "Memory"),
-];
-
-#[test]
-fn faults_are_printed_by_their_names(rt: HostRuntime) {
-    for (fault, name) in NAMES {
-        let mut text = String::new(rt.alloc());
-        let printed = write!(text, "{fault}");
-        assert!(rt; printed.is_ok() && text.as_str() == *name, "{name}");
-    }
-}
 
 /// Whether a run on the device of a node that echoes ends with that fault, or with none, once its outlet, which has room for `room` bytes, took these
 /// bytes, by calls for these numbers.
