@@ -52,12 +52,12 @@ pub use running::run_on;
 pub use stop_file::StopFault;
 pub use streaming::{FilesFault, Streamed, stream_on};
 pub use tp_views::{
-    NodeMaps, Seen, TRY_QUANTUM, check_on, is_openable, recover_on, show_on, status_on, trace_on,
-    try_on, view_on,
+    NodeMaps, Seen, TRY_QUANTUM, check_on, is_openable, recover_on, show_on, status_on,
+    trace_device_on, trace_on, try_on, view_on,
 };
 pub use tp_words::{
     ArgFault, Asked, Backup, Command, CommandFault, CommandLine, EndsFault, JournalPart, NewDevice,
-    Run, StopRequest, StreamRun, View,
+    Run, StopRequest, StreamRun, TracePart, View,
 };
 pub use trying::{InUse, Tries, lock_file, lock_made};
 pub use unspelt::words_refusal;

@@ -8,7 +8,10 @@ use std::sync::Wait;
 use std::test::Fail;
 use std::thread::Threads;
 use tp_disk::{Counted, Disk, MemDisk};
-use tp_program::{JournalPart, NodeMaps, View, backup_on, recover_on, show_on, view_on};
+use tp_program::{
+    JournalPart, NodeMaps, TracePart, View, backup_on, recover_on, show_on, status_on,
+    trace_device_on, view_on,
+};
 use tp_tests_fixtures::{AREA, SIZE};
 
 /// A command that reads a device.
@@ -18,6 +21,8 @@ enum Reader {
     Recover(u8),
     Show,
     Look(View),
+    Status,
+    Trace(TracePart),
     /// Which makes a copy; that is shown.
     Backup,
 }
@@ -46,6 +51,17 @@ fn asked<R: AllocGlobal + Threads + Sync>(rt: &R, changing: &mut Changing, reade
         Reader::Look(view) => {
             let maps = NodeMaps::none(alloc);
             view_on(alloc, &mut disk, view, &maps, &mut out, &mut err)
+        }
+        Reader::Status => {
+            let (out, err) = (&mut out, &mut err);
+            match status_on(alloc, &mut disk, false, 0, None, &None, false, out, err) {
+                Ok(_) => 0,
+                Err(status) => status,
+            }
+        }
+        Reader::Trace(part) => {
+            let maps = NodeMaps::none(alloc);
+            trace_device_on(alloc, &mut disk, part, &maps, &mut out, &mut err)
         }
         Reader::Backup => show_copy(alloc, &mut disk, &mut out, &mut err),
     };
@@ -277,6 +293,13 @@ const WHOLE: JournalPart = JournalPart {
     json: false,
 };
 
+/// All that its journal says of a node.
+const TRACED: TracePart = TracePart {
+    node: 0,
+    from: 0,
+    to: None,
+};
+
 /// A command, in how many of its tries the device is written, and whether it says what holds in the end; else it says `Busy`.
 const TRIES: &[(Reader, u8, bool)] = &[
     (Reader::Recover(1), 19, true),
@@ -290,6 +313,12 @@ const TRIES: &[(Reader, u8, bool)] = &[
     (Reader::Look(View::Image(0)), 20, false),
     (Reader::Look(View::Journal(WHOLE)), 20, false),
     (Reader::Look(View::Outputs(0)), 20, false),
+    (Reader::Look(View::Waits), 19, true),
+    (Reader::Look(View::Waits), 20, false),
+    (Reader::Status, 19, true),
+    (Reader::Status, 20, false),
+    (Reader::Trace(TRACED), 19, true),
+    (Reader::Trace(TRACED), 20, false),
     (Reader::Backup, 1, true),
     (Reader::Backup, 19, true),
     (Reader::Backup, 20, false),
