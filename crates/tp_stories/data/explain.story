@@ -263,6 +263,10 @@ text net.txt port g\nport h\nwire g h\n
 tpnet check net.txt . --explain
 text net.txt node a 4\x0D\nport h\x0D\nwire a.0 h.0\x0D\n
 tpnet check net.txt . --explain
+text net.txt node a 4\x0D\nport h\x0D\nwire a.0 h\x0D\nwire a.0 a.1\x0D\nwire a.2 a.3\x0D\n
+tpnet check net.txt . --explain
+text net.txt node a 4\x0D\nwire a.0 b.0\x0D\nnode b 4\x0D\n
+tpnet check net.txt . --explain
 text net.txt node a 4\nport h\nport i\nport j\nport k\nport l\nport m\nport n\nport o\nport p\n
 tpnet check net.txt . --explain
 # Of two rules the first one is told: of spaces, of the words' number, then of each word in order, and of what lines above say at last.

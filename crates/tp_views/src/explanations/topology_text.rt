@@ -16,21 +16,21 @@ const NO_TEXT: &str = "(no text: is this file the topology? --help has the order
 /// How many characters of a line are shown at most.
 const MOST_SHOWN: usize = 200;
 
-/// Gives the first `count` lines of a text, without the end of the last one.
+/// Gives the first `count` lines of a text, with their ends: a CR before the end of a line counts as part of the end.
 fn first_lines(text: &[u8], count: usize) -> &[u8] {
     let mut seen = 0usize;
     for (at, byte) in text.iter().enumerate() {
-        if *byte == b'\n' {
-            seen = seen.saturating_add(1);
-        }
         if seen == count {
             return text.get(..at).unwrap_or(text);
+        }
+        if *byte == b'\n' {
+            seen = seen.saturating_add(1);
         }
     }
     text
 }
 
-/// Gives the lines of a text above this one, counted from 1, without the end of the last one.
+/// Gives the lines of a text above this one, counted from 1, with their ends.
 fn lines_above(text: &[u8], number: usize) -> &[u8] {
     match number {
         0 | 1 => &[],
